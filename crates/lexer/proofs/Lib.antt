@@ -1,0 +1,6 @@
+pub mod Spelled
+pub mod Numbers
+pub mod Distinct
+pub mod Fronts
+pub mod Gaps
+pub mod Cuts

@@ -1,0 +1,4 @@
+pub mod Classes
+pub mod Spelling
+pub mod Runs
+pub mod Tokens

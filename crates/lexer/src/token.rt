@@ -1,0 +1,70 @@
+// Tokens: what a recipe is cut into.
+
+/// The words that are no names.
+#[derive(Clone, Copy, Debug, PartialEq)]
+pub enum Keyword {
+    Program,
+    Class,
+    If,
+    Else,
+    While,
+    Read,
+    Print,
+    Return,
+    Break,
+    Void,
+    Final,
+    New,
+}
+
+/// The signs: operators, brackets and separators.
+#[derive(Clone, Copy, Debug, PartialEq)]
+pub enum Operator {
+    Plus,
+    Minus,
+    Star,
+    Slash,
+    Percent,
+    PlusPlus,
+    MinusMinus,
+    EqualEqual,
+    NotEqual,
+    Greater,
+    GreaterEqual,
+    Less,
+    LessEqual,
+    AndAnd,
+    OrOr,
+    OpenParen,
+    CloseParen,
+    OpenBracket,
+    CloseBracket,
+    OpenBrace,
+    CloseBrace,
+    Assign,
+    Semicolon,
+    Comma,
+    Dot,
+}
+
+/// What a token is.
+#[derive(Clone, Copy, Debug, PartialEq)]
+pub enum Kind {
+    /// No token: the text has ended.
+    End,
+    Name,
+    /// A number, by its value.
+    Number(u32),
+    /// A character constant, by its byte.
+    Character(u8),
+    Word(Keyword),
+    Sign(Operator),
+}
+
+/// A token: its kind and the part of the recipe that it is, `len` bytes from `place` on.
+#[derive(Clone, Copy, Debug, PartialEq)]
+pub struct Token {
+    pub kind: Kind,
+    pub place: usize,
+    pub len: usize,
+}
