@@ -1,5 +1,5 @@
 -- What stands at the front of some bytes: at most one gap or token, within the bytes.
-use mathlib.Core.Bool.{Bool, true, false, true≢false, cond, _&&_}
+use mathlib.Core.Bool.{Bool, true, false, true≢false, cond, _&&_, _||_}
 use mathlib.Core.List.{List, [], _∷_}
 use mathlib.Core.Logic.{⊎-elim}
 use mathlib.Core.Path.{_≡_, refl, sym, ap, subst, _∙_}
@@ -15,10 +15,10 @@ use Rattle.std.proofs.str.Laws.{order}
 use Rattle.std.specs.shelf.Lists.{leading}
 use Rattle.std.proofs.shelf.Sums.{leading-le-length}
 use Rattle.std.proofs.shelf.Ways.{tells}
-use Rattle.lexer.specs.Classes.{within, letter, digit, blank}
+use Rattle.lexer.specs.Classes.{within, letter, digit, blank, signByte}
 use Rattle.lexer.specs.Runs.{wordByte, lineByte, decimal}
 use Rattle.lexer.specs.Spelling.{keywordText, signText, Begins}
-use Rattle.lexer.specs.Tokens.{Gap, a-blank, a-comment, Escape, carriage-return, line-feed, Lexeme, a-word, a-name, a-number, a-character, an-escape, a-sign}
+use Rattle.lexer.specs.Tokens.{Gap, a-blank, a-comment, Escape, carriage-return, line-feed, Plain, Escaped, Lexeme, a-word, a-name, a-number, a-character, an-escape, a-sign}
 use Rattle.lexer.specs.declared.token.Kind.{Kind}
 use Rattle.lexer.specs.declared.token.Kind.the-variants.{End, Name, Number, Character, Word, Sign}
 use Rattle.lexer.specs.declared.token.Operator.{Operator}
@@ -47,7 +47,7 @@ is-blank b e = grind (arith, tells)
 
 -- every sign has one or two bytes, and its first byte is no other token's
 abbrev sign-shape : Operator → Bool
-sign-shape g = eqb (sort (getD (signText g) 0 0)) 4 && within 1 2 (length (signText g))
+sign-shape g = eqb (sort (getD (signText g) 0 0)) 4 && signByte (getD (signText g) 0 0) && within 1 2 (length (signText g))
 
 sign-shaped : (g : Operator) → sign-shape g ≡ true
 sign-shaped Plus = refl
@@ -76,6 +76,9 @@ sign-shaped Semicolon = refl
 sign-shaped Comma = refl
 sign-shaped Dot = refl
 
+sign-first : (g : Operator) → signByte (getD (signText g) 0 0) ≡ true
+sign-first g = let h = sign-shaped g in grind (arith, tells)
+
 pub sign-sort : (g : Operator) → sort (getD (signText g) 0 0) ≡ 4
 sign-sort g = let h = sign-shaped g in grind (arith, tells)
 
@@ -90,8 +93,8 @@ abbrev rule : {s : List ℕ} {k : Kind} {n : ℕ} → Lexeme s k n → ℕ
 rule (a-word _ _ _) = 1
 rule (a-name _ _) = 1
 rule (a-number _ _) = 2
-rule (a-character _ _ _) = 3
-rule (an-escape _ _ _ _) = 3
+rule (a-character _) = 3
+rule (an-escape _) = 3
 rule (a-sign _ _ _ _) = 4
 
 pub begins-sign : (s : List ℕ) (g : Operator) → Begins (signText g) s → sort (getD s 0 0) ≡ 4
@@ -101,9 +104,18 @@ lexeme-sort : {s : List ℕ} {k : Kind} {n : ℕ} → (x : Lexeme s k n) → sor
 lexeme-sort {s} (a-word k h e) = is-letter (getD s 0 0) h
 lexeme-sort {s} (a-name h e) = is-letter (getD s 0 0) h
 lexeme-sort {s} (a-number h e) = is-digit (getD s 0 0) h
-lexeme-sort (a-character q h e) = ap sort q
-lexeme-sort (an-escape q h e f) = ap sort q
+lexeme-sort (a-character p) = ap sort (p .opens)
+lexeme-sort (an-escape p) = ap sort (p .opens)
 lexeme-sort {s} (a-sign g b l n) = begins-sign s g b
+
+-- a token begins with a letter, a digit or a byte of a sign or the quote
+pub lexeme-first : {s : List ℕ} {k : Kind} {n : ℕ} → Lexeme s k n → letter (getD s 0 0) || digit (getD s 0 0) || signByte (getD s 0 0) ≡ true
+lexeme-first {s} (a-word k h e) = grind (arith, tells)
+lexeme-first {s} (a-name h e) = grind (arith, tells)
+lexeme-first {s} (a-number h e) = grind (arith, tells)
+lexeme-first {s} (a-character p) = ap (λ b. letter b || digit b || signByte b) (p .opens)
+lexeme-first {s} (an-escape p) = ap (λ b. letter b || digit b || signByte b) (p .opens)
+lexeme-first {s} (a-sign g b l n) = let e = ap signByte (begins-at (signText g) s 0 (sign-some g) b) ∙ sign-first g in grind (arith, tells)
 
 differ : (s : List ℕ) {k l : Kind} {m n : ℕ} (x : Lexeme s k m) (y : Lexeme s l n) → eqb (rule x) (rule y) ≡ false → ⊥
 differ s x y e = eqb-false (rule x) (rule y) e (sym (lexeme-sort x) ∙ lexeme-sort y)
@@ -130,8 +142,8 @@ pub lexeme-within : {s : List ℕ} {k : Kind} {n : ℕ} → Lexeme s k n → (0 
 lexeme-within {s} (a-word k h e) = (some-leading wordByte s (letter-word (getD s 0 0) h) refl, leading-le-length wordByte s)
 lexeme-within {s} (a-name h e) = (some-leading wordByte s (letter-word (getD s 0 0) h) refl, leading-le-length wordByte s)
 lexeme-within {s} (a-number h e) = (some-leading digit s h refl, leading-le-length digit s)
-lexeme-within {s} (a-character q h e) = (omega arith, there s 2 39 e (omega arith))
-lexeme-within {s} (an-escape q h e f) = (omega arith, there s 3 39 f (omega arith))
+lexeme-within {s} (a-character p) = (omega arith, there s 2 39 (p .closes) (omega arith))
+lexeme-within {s} (an-escape p) = (omega arith, there s 3 39 (p .closes) (omega arith))
 lexeme-within {s} (a-sign g b l n) = (sign-some g, begins-within (signText g) s b)
 
 -- at most one gap stands in front
@@ -145,8 +157,8 @@ never-blank : {s : List ℕ} {k : Kind} {n : ℕ} (x : Lexeme s k n) → rule x 
 never-blank (a-word k h e) r = omega arith
 never-blank (a-name h e) r = omega arith
 never-blank (a-number h e) r = omega arith
-never-blank (a-character q h e) r = omega arith
-never-blank (an-escape q h e f) r = omega arith
+never-blank (a-character p) r = omega arith
+never-blank (an-escape p) r = omega arith
 never-blank (a-sign g b l n) r = omega arith
 
 -- where a comment begins no token does
@@ -154,8 +166,8 @@ no-comment : {s : List ℕ} {k : Kind} {n : ℕ} (x : Lexeme s k n) → rule x �
 no-comment (a-word k h e) r b = omega arith
 no-comment (a-name h e) r b = omega arith
 no-comment (a-number h e) r b = omega arith
-no-comment (a-character q h e) r b = omega arith
-no-comment (an-escape q h e f) r b = omega arith
+no-comment (a-character p) r b = omega arith
+no-comment (an-escape p) r b = omega arith
 no-comment (a-sign g c l n) r b = n b
 
 -- a gap and a token do not stand at one place
@@ -182,36 +194,36 @@ pub lexeme-one : {s : List ℕ} {k l : Kind} {m n : ℕ} → Lexeme s k m → Le
 lexeme-one (a-word k a b) (a-word l i j) = (ap Word (same-keyword k l (sym b ∙ j)), refl)
 lexeme-one (a-word k a b) (a-name i j) = absurd (j k b)
 lexeme-one {s} (a-word k a b) (a-number i j) = absurd (differ s (a-word k a b) (a-number i j) refl)
-lexeme-one {s} (a-word w a b) (a-character i j k) = absurd (differ s (a-word w a b) (a-character i j k) refl)
-lexeme-one {s} (a-word w a b) (an-escape i j k l) = absurd (differ s (a-word w a b) (an-escape i j k l) refl)
+lexeme-one {s} (a-word k a b) (a-character i) = absurd (differ s (a-word k a b) (a-character i) refl)
+lexeme-one {s} (a-word k a b) (an-escape i) = absurd (differ s (a-word k a b) (an-escape i) refl)
 lexeme-one {s} (a-word w a b) (a-sign i j k l) = absurd (differ s (a-word w a b) (a-sign i j k l) refl)
 lexeme-one (a-name a b) (a-word l i j) = absurd (b l j)
 lexeme-one (a-name a b) (a-name i j) = (refl, refl)
 lexeme-one {s} (a-name a b) (a-number i j) = absurd (differ s (a-name a b) (a-number i j) refl)
-lexeme-one {s} (a-name a b) (a-character i j k) = absurd (differ s (a-name a b) (a-character i j k) refl)
-lexeme-one {s} (a-name a b) (an-escape i j k l) = absurd (differ s (a-name a b) (an-escape i j k l) refl)
+lexeme-one {s} (a-name a b) (a-character i) = absurd (differ s (a-name a b) (a-character i) refl)
+lexeme-one {s} (a-name a b) (an-escape i) = absurd (differ s (a-name a b) (an-escape i) refl)
 lexeme-one {s} (a-name a b) (a-sign i j k l) = absurd (differ s (a-name a b) (a-sign i j k l) refl)
 lexeme-one {s} (a-number a b) (a-word l i j) = absurd (differ s (a-number a b) (a-word l i j) refl)
 lexeme-one {s} (a-number a b) (a-name i j) = absurd (differ s (a-number a b) (a-name i j) refl)
 lexeme-one (a-number a b) (a-number i j) = (refl, refl)
-lexeme-one {s} (a-number a b) (a-character i j k) = absurd (differ s (a-number a b) (a-character i j k) refl)
-lexeme-one {s} (a-number a b) (an-escape i j k l) = absurd (differ s (a-number a b) (an-escape i j k l) refl)
+lexeme-one {s} (a-number a b) (a-character i) = absurd (differ s (a-number a b) (a-character i) refl)
+lexeme-one {s} (a-number a b) (an-escape i) = absurd (differ s (a-number a b) (an-escape i) refl)
 lexeme-one {s} (a-number a b) (a-sign i j k l) = absurd (differ s (a-number a b) (a-sign i j k l) refl)
-lexeme-one {s} (a-character a b c) (a-word l i j) = absurd (differ s (a-character a b c) (a-word l i j) refl)
-lexeme-one {s} (a-character a b c) (a-name i j) = absurd (differ s (a-character a b c) (a-name i j) refl)
-lexeme-one {s} (a-character a b c) (a-number i j) = absurd (differ s (a-character a b c) (a-number i j) refl)
-lexeme-one (a-character a b c) (a-character i j k) = (refl, refl)
-lexeme-one (a-character a b c) (an-escape i j k l) = absurd (escape-letter k c)
-lexeme-one {s} (a-character a b c) (a-sign i j k l) = absurd (differ s (a-character a b c) (a-sign i j k l) refl)
-lexeme-one {s} (an-escape a b c d) (a-word l i j) = absurd (differ s (an-escape a b c d) (a-word l i j) refl)
-lexeme-one {s} (an-escape a b c d) (a-name i j) = absurd (differ s (an-escape a b c d) (a-name i j) refl)
-lexeme-one {s} (an-escape a b c d) (a-number i j) = absurd (differ s (an-escape a b c d) (a-number i j) refl)
-lexeme-one (an-escape a b c d) (a-character i j k) = absurd (escape-letter c k)
-lexeme-one (an-escape a b c d) (an-escape i j k l) = (ap Character (escape-one c k), refl)
-lexeme-one {s} (an-escape a b c d) (a-sign i j k l) = absurd (differ s (an-escape a b c d) (a-sign i j k l) refl)
+lexeme-one {s} (a-character a) (a-word l i j) = absurd (differ s (a-character a) (a-word l i j) refl)
+lexeme-one {s} (a-character a) (a-name i j) = absurd (differ s (a-character a) (a-name i j) refl)
+lexeme-one {s} (a-character a) (a-number i j) = absurd (differ s (a-character a) (a-number i j) refl)
+lexeme-one (a-character a) (a-character i) = (ap Character (sym (a .byte) ∙ i .byte), refl)
+lexeme-one (a-character a) (an-escape i) = absurd (escape-letter (i .escape) (a .closes))
+lexeme-one {s} (a-character a) (a-sign i j k l) = absurd (differ s (a-character a) (a-sign i j k l) refl)
+lexeme-one {s} (an-escape a) (a-word l i j) = absurd (differ s (an-escape a) (a-word l i j) refl)
+lexeme-one {s} (an-escape a) (a-name i j) = absurd (differ s (an-escape a) (a-name i j) refl)
+lexeme-one {s} (an-escape a) (a-number i j) = absurd (differ s (an-escape a) (a-number i j) refl)
+lexeme-one (an-escape a) (a-character i) = absurd (escape-letter (a .escape) (i .closes))
+lexeme-one (an-escape a) (an-escape i) = (ap Character (escape-one (a .escape) (i .escape)), refl)
+lexeme-one {s} (an-escape a) (a-sign i j k l) = absurd (differ s (an-escape a) (a-sign i j k l) refl)
 lexeme-one {s} (a-sign a b c d) (a-word l i j) = absurd (differ s (a-sign a b c d) (a-word l i j) refl)
 lexeme-one {s} (a-sign a b c d) (a-name i j) = absurd (differ s (a-sign a b c d) (a-name i j) refl)
 lexeme-one {s} (a-sign a b c d) (a-number i j) = absurd (differ s (a-sign a b c d) (a-number i j) refl)
-lexeme-one {s} (a-sign a b c d) (a-character i j k) = absurd (differ s (a-sign a b c d) (a-character i j k) refl)
-lexeme-one {s} (a-sign a b c d) (an-escape i j k l) = absurd (differ s (a-sign a b c d) (an-escape i j k l) refl)
+lexeme-one {s} (a-sign a b c d) (a-character i) = absurd (differ s (a-sign a b c d) (a-character i) refl)
+lexeme-one {s} (a-sign a b c d) (an-escape i) = absurd (differ s (a-sign a b c d) (an-escape i) refl)
 lexeme-one {s} (a-sign a b c d) (a-sign i j k l) = same-longest s a i b j (c i j) (k a b)

@@ -4,3 +4,4 @@ pub mod Distinct
 pub mod Fronts
 pub mod Gaps
 pub mod Cuts
+pub mod Lexemes

@@ -1,4 +1,5 @@
 pub mod Classes
 pub mod Spelling
 pub mod Runs
+pub mod Refusals
 pub mod Tokens

@@ -29,6 +29,20 @@ pub data Escape : ℕ → ℕ → Type 0 where
   -- \n is the line feed
   line-feed : Escape 110 10
 
+-- the first form of a character constant: a quote, the byte, one from 32 to 126, and a quote
+pub record Plain (s : List ℕ) (c : ℕ) : Type 0 where
+  pub opens : getD s 0 0 ≡ 39
+  pub byte : getD s 1 0 ≡ c
+  pub shown : within 32 126 c ≡ true
+  pub closes : getD s 2 0 ≡ 39
+
+-- the second form: a quote, a backslash, a letter that may stand after it, and a quote
+pub record Escaped (s : List ℕ) (c : ℕ) : Type 0 where
+  pub opens : getD s 0 0 ≡ 39
+  pub backslash : getD s 1 0 ≡ 92
+  pub escape : Escape (getD s 2 0) c
+  pub closes : getD s 3 0 ≡ 39
+
 -- s begins with a token of this kind that takes n bytes
 pub data Lexeme (s : List ℕ) : Kind → ℕ → Type 0 where
   -- a keyword is a longest run of letters, digits and underscores, a letter first, that is spelled so
@@ -37,10 +51,10 @@ pub data Lexeme (s : List ℕ) : Kind → ℕ → Type 0 where
   a-name : letter (getD s 0 0) ≡ true → ((k : Keyword) → take (leading wordByte s) s ≡ keywordText k → ⊥) → Lexeme s Name (leading wordByte s)
   -- a number is a longest run of digits, of value at most 2,147,483,647
   a-number : digit (getD s 0 0) ≡ true → decimal (take (leading digit s) s) ≤ 2147483647 → Lexeme s (Number (decimal (take (leading digit s) s))) (leading digit s)
-  -- a character constant is a quote, one byte from 32 to 126, and a quote
-  a-character : getD s 0 0 ≡ 39 → within 32 126 (getD s 1 0) ≡ true → getD s 2 0 ≡ 39 → Lexeme s (Character (getD s 1 0)) 3
-  -- or a quote, a backslash, a letter that may stand after it, and a quote
-  an-escape : {c : ℕ} → getD s 0 0 ≡ 39 → getD s 1 0 ≡ 92 → Escape (getD s 2 0) c → getD s 3 0 ≡ 39 → Lexeme s (Character c) 4
+  -- a character constant in its first form
+  a-character : {c : ℕ} → Plain s c → Lexeme s (Character c) 3
+  -- a character constant in its second form
+  an-escape : {c : ℕ} → Escaped s c → Lexeme s (Character c) 4
   -- a sign is the longest that the bytes begin with, where no comment begins
   a-sign : (g : Operator) → Begins (signText g) s → ((h : Operator) → Begins (signText h) s → length (signText h) ≤ length (signText g)) → (Begins (codes "//") s → ⊥) → Lexeme s (Sign g) (length (signText g))
 

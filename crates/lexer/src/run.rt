@@ -45,7 +45,8 @@ impl Run {
 
     /// How many bytes at the front of `s` belong to the run.
     pub(crate) fn len_in(self, s: &[u8]) -> usize
-        ensures { λ r. ⌜ r ≡ leading (inRun self) (now (s .entry)) ⌝ }
+        ensures len { λ r. ⌜ r ≡ leading (inRun self) (now (s .entry)) ⌝ }
+        ensures within { λ r. ⌜ r ≤ length (now (s .entry)) ⌝ }
     {
         for (i, byte) in s.iter().enumerate() {
             if !self.has(*byte) {

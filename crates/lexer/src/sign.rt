@@ -1,6 +1,7 @@
 // Which bytes are signs.
 ghost use mathlib.Core.List.{[], _∷_};
 ghost use mathlib.Core.Path.{_≡_};
+ghost use Prim.Native.Nat.{_≤_};
 ghost use lib.ListN.{length};
 ghost use Rattle.std.specs.Options.{Cases as BySome};
 ghost use Rattle.lexer.specs.declared.token.Operator.{Operator as AnySign};
@@ -48,5 +49,18 @@ fn narrow_sign(byte: u8) -> Option<Operator>
         b',' => Some(Operator::Comma),
         b'.' => Some(Operator::Dot),
         _ => None,
+    }
+}
+
+/// The longest sign that `s` begins with: two bytes are tried before one.
+pub(crate) fn sign(s: &[u8]) -> Option<Operator>
+    ensures { λ r. ⌜ BySome r ((g : AnySign) → Begins (signText g) (now (s .entry)) → ⊥) (λ g. Begins (signText g) (now (s .entry)) × ((h : AnySign) → Begins (signText h) (now (s .entry)) → length (signText h) ≤ length (signText g))) ⌝ }
+{
+    if let Some(sign) = wide_sign(s) {
+        return Some(sign);
+    }
+    match s {
+        [byte, ..] => narrow_sign(*byte),
+        [] => None,
     }
 }

@@ -1,4 +1,7 @@
 // Tokens: what a recipe is cut into.
+ghost use mathlib.Core.Path.{_≡_};
+ghost use lib.ListN.{length};
+ghost use Rattle.lexer.specs.Spelling.{signText};
 
 /// The words that are no names.
 #[derive(Clone, Copy, Debug, PartialEq)]
@@ -67,4 +70,23 @@ pub struct Token {
     pub kind: Kind,
     pub place: usize,
     pub len: usize,
+}
+
+impl Operator {
+    /// How many bytes the sign has.
+    pub(crate) fn len(self) -> usize
+        ensures { λ r. ⌜ r ≡ length (signText self) ⌝ }
+    {
+        match self {
+            Operator::PlusPlus
+            | Operator::MinusMinus
+            | Operator::EqualEqual
+            | Operator::NotEqual
+            | Operator::GreaterEqual
+            | Operator::LessEqual
+            | Operator::AndAnd
+            | Operator::OrOr => 2,
+            _ => 1,
+        }
+    }
 }

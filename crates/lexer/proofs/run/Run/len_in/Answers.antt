@@ -8,7 +8,7 @@ pub loop-i-again : need.loop-i-again
 loop-i-again c = omega (arith, c .loop-i .inv, leading-drop-yes (inRun (c .args .self)) (c .args .s .now) (c .loop-i .i) 0 (omega arith) (sym (c .if-not-has .ensures tt)))
 
 pub returns-then-not-has : need.returns-then-not-has
-returns-then-not-has c = omega (arith, c .loop-i .inv, leading-drop-no (inRun (c .args .self)) (c .args .s .now) (c .loop-i .i) 0 (omega arith) (sym (c .if-not-has .ensures tt)))
+returns-then-not-has c = record { within = omega arith; len = omega (arith, c .loop-i .inv, leading-drop-no (inRun (c .args .self)) (c .args .s .now) (c .loop-i .i) 0 (omega arith) (sym (c .if-not-has .ensures tt))) }
 
 pub returns : need.returns
-returns c = omega (arith, c .loop-i .inv, leading-drop-all (inRun (c .args .self)) (c .args .s .now) (c .loop-i .i) (omega arith))
+returns c = record { within = omega arith; len = omega (arith, c .loop-i .inv, leading-drop-all (inRun (c .args .self)) (c .args .s .now) (c .loop-i .i) (omega arith)) }

@@ -1,0 +1,7 @@
+use borrow.Author.Needs.{needs}
+use native.Mathlib.Omega.{arith}
+use Rattle.lexer.proofs.Fronts.{there}
+use Rattle.lexer.proofs.front.escaped.Needs as need
+
+pub returns-in-rest : need.returns-in-rest
+returns-in-rest c byte form = let long = there (c .args .s .now) 3 39 (form .closes) (omega arith) in search needs
