@@ -4,10 +4,10 @@ use mathlib.Core.Path.{_≡_, refl, sym, ap, subst, _∙_}
 use Prim.Native.Nat.{ℕ, _+_, _-_, _<_, _≤_}
 use native.Mathlib.Omega.{arith}
 use lib.ListN.{length, drop, length-drop}
-use Rattle.lexer.specs.Tokens.{Gap, Lexeme, Cut, nothing, a-gap, a-token}
+use Rattle.lexer.specs.Tokens.{Gap, Lexeme, Bad, Cut, nothing, a-gap, a-token}
 use Rattle.lexer.specs.declared.token.Kind.{Kind}
 use Rattle.lexer.specs.declared.token.Token.{Token}
-use Rattle.lexer.proofs.Fronts.{gap-within, gap-one, lexeme-within, lexeme-one, gap-or-lexeme}
+use Rattle.lexer.proofs.Fronts.{gap-within, gap-one, lexeme-within, lexeme-one, gap-or-lexeme, bad-some, bad-no-gap, bad-no-lexeme}
 
 -- what follows a part joins it
 pub cut-append : {text : List ℕ} {p q r : ℕ} {ts us : List Token} → Cut text p q ts → Cut text q r us → Cut text p r (ts ++ us)
@@ -39,3 +39,30 @@ pub cut-within : {text : List ℕ} {p q : ℕ} {ts : List Token} → Cut text p 
 cut-within nothing h = h
 cut-within {text} {p} (a-gap {n = n} g c) h = cut-within c (gap-inside text p n g .1)
 cut-within {text} {p} (a-token {n = n} {k = k} x c) h = cut-within c (lexeme-inside text p k n x .1)
+
+-- a part has one list of tokens
+pub cut-one : {text : List ℕ} {p q r : ℕ} {ts us : List Token} → Cut text p q ts → Cut text p r us → q ≡ r → us ≡ ts
+cut-one nothing nothing e = refl
+cut-one {text} {p} nothing (a-gap {n = n} g d) e = absurd (omega (arith, gap-inside text p n g, cut-onward d))
+cut-one {text} {p} nothing (a-token {n = n} {k = k} y d) e = absurd (omega (arith, lexeme-inside text p k n y, cut-onward d))
+cut-one {text} {p} (a-gap {n = n} g c) nothing e = absurd (omega (arith, gap-inside text p n g, cut-onward c))
+cut-one {text} {p} {q} {r} {ts} {us} (a-gap g c) (a-gap h d) e = cut-one c (subst (λ n. Cut text (p + n) r us) (gap-one h g) d) e
+cut-one (a-gap g c) (a-token y d) e = absurd (gap-or-lexeme g y)
+cut-one {text} {p} (a-token {n = n} {k = k} x c) nothing e = absurd (omega (arith, lexeme-inside text p k n x, cut-onward c))
+cut-one (a-token x c) (a-gap h d) e = absurd (gap-or-lexeme h x)
+cut-one {text} {p} {q} {r} (a-token x c) (a-token {ts = vs} y d) e =
+    let same = lexeme-one y x in
+    let rest = cut-one c (subst (λ n. Cut text (p + n) r vs) (same .1) d) e in
+    λ i. record { kind = same .0 i; place = p; len = same .1 i } ∷ rest i
+
+-- a text that cannot go on at some place has no list of tokens
+pub cut-stops : {text : List ℕ} {p q end number : ℕ} {ts us : List Token} → Cut text p q ts → Bad (drop q text) number → end ≡ length text → Cut text p end us → ⊥
+cut-stops {text} {p} nothing b e nothing = omega (arith, bad-some (drop p text) b, length-drop p text)
+cut-stops nothing b e (a-gap h d) = bad-no-gap b h
+cut-stops nothing b e (a-token y d) = bad-no-lexeme b y
+cut-stops {text} {p} {q} (a-gap {n = n} g c) b e nothing = omega (arith, gap-inside text p n g, cut-onward c, bad-some (drop q text) b, length-drop q text)
+cut-stops {text} {p} {q} {end} {number} {ts} {us} (a-gap g c) b e (a-gap h d) = cut-stops c b e (subst (λ n. Cut text (p + n) end us) (gap-one h g) d)
+cut-stops (a-gap g c) b e (a-token y d) = gap-or-lexeme g y
+cut-stops {text} {p} {q} (a-token {n = n} {k = k} x c) b e nothing = omega (arith, lexeme-inside text p k n x, cut-onward c, bad-some (drop q text) b, length-drop q text)
+cut-stops (a-token x c) b e (a-gap h d) = gap-or-lexeme h x
+cut-stops {text} {p} {q} {end} (a-token x c) b e (a-token {ts = vs} y d) = cut-stops c b e (subst (λ n. Cut text (p + n) end vs) (lexeme-one y x .1) d)

@@ -18,7 +18,7 @@ use Rattle.std.proofs.shelf.Ways.{tells}
 use Rattle.lexer.specs.Classes.{within, letter, digit, blank, signByte}
 use Rattle.lexer.specs.Runs.{wordByte, lineByte, decimal}
 use Rattle.lexer.specs.Spelling.{keywordText, signText, Begins}
-use Rattle.lexer.specs.Tokens.{Gap, a-blank, a-comment, Escape, carriage-return, line-feed, Plain, Escaped, Lexeme, a-word, a-name, a-number, a-character, an-escape, a-sign}
+use Rattle.lexer.specs.Tokens.{Gap, a-blank, a-comment, Escape, carriage-return, line-feed, Plain, Escaped, Lexeme, a-word, a-name, a-number, a-character, an-escape, a-sign, Bad, no-token, too-large}
 use Rattle.lexer.specs.declared.token.Kind.{Kind}
 use Rattle.lexer.specs.declared.token.Kind.the-variants.{End, Name, Number, Character, Word, Sign}
 use Rattle.lexer.specs.declared.token.Operator.{Operator}
@@ -227,3 +227,50 @@ lexeme-one {s} (a-sign a b c d) (a-number i j) = absurd (differ s (a-sign a b c 
 lexeme-one {s} (a-sign a b c d) (a-character i) = absurd (differ s (a-sign a b c d) (a-character i) refl)
 lexeme-one {s} (a-sign a b c d) (an-escape i) = absurd (differ s (a-sign a b c d) (an-escape i) refl)
 lexeme-one {s} (a-sign a b c d) (a-sign i j k l) = same-longest s a i b j (c i j) (k a b)
+
+-- a token that begins with a digit is a number that is not too large
+lexeme-number : (s : List ℕ) {k : Kind} {n : ℕ} → Lexeme s k n → digit (getD s 0 0) ≡ true → decimal (take (leading digit s) s) ≤ 2147483647
+lexeme-number s (a-word k h e) d = absurd (omega (arith, is-letter (getD s 0 0) h, is-digit (getD s 0 0) d))
+lexeme-number s (a-name h e) d = absurd (omega (arith, is-letter (getD s 0 0) h, is-digit (getD s 0 0) d))
+lexeme-number s (a-number h e) d = e
+lexeme-number s (a-character p) d = absurd (omega (arith, ap sort (p .opens), is-digit (getD s 0 0) d))
+lexeme-number s (an-escape p) d = absurd (omega (arith, ap sort (p .opens), is-digit (getD s 0 0) d))
+lexeme-number s (a-sign g b l n) d = absurd (omega (arith, begins-sign s g b, is-digit (getD s 0 0) d))
+
+gap-no-digit : (s : List ℕ) {n : ℕ} → Gap s n → digit (getD s 0 0) ≡ true → ⊥
+gap-no-digit s (a-blank h e) d = omega (arith, is-blank (getD s 0 0) e, is-digit (getD s 0 0) d)
+gap-no-digit s (a-comment b) d = omega (arith, ap sort (begins-at (codes "//") s 0 (omega arith) b), is-digit (getD s 0 0) d)
+
+-- where no token can be taken there is a byte, but neither a gap nor a token
+pub bad-some : (s : List ℕ) {r : ℕ} → Bad s r → 0 < length s
+bad-some s (no-token h g x d) = h
+bad-some [] (too-large d l) = absurd (true≢false (sym d))
+bad-some (b ∷ s) (too-large d l) = omega arith
+
+pub bad-no-gap : {s : List ℕ} {r n : ℕ} → Bad s r → Gap s n → ⊥
+bad-no-gap {s} {r} {n} (no-token h none x d) g = none n g
+bad-no-gap {s} (too-large d l) g = gap-no-digit s g d
+
+pub bad-no-lexeme : {s : List ℕ} {r n : ℕ} {k : Kind} → Bad s r → Lexeme s k n → ⊥
+bad-no-lexeme {s} {r} {n} {k} (no-token h g none d) x = none k n x
+bad-no-lexeme {s} (too-large d l) x = omega (arith, lexeme-number s x d)
+
+-- no token is of the kind of the end
+abbrev is-end : Kind → Bool
+is-end End = true
+is-end Name = false
+is-end (Number _) = false
+is-end (Character _) = false
+is-end (Word _) = false
+is-end (Sign _) = false
+
+lexeme-goes-on : {s : List ℕ} {k : Kind} {n : ℕ} → Lexeme s k n → is-end k ≡ false
+lexeme-goes-on (a-word k h e) = refl
+lexeme-goes-on (a-name h e) = refl
+lexeme-goes-on (a-number h e) = refl
+lexeme-goes-on (a-character p) = refl
+lexeme-goes-on (an-escape p) = refl
+lexeme-goes-on (a-sign g b l n) = refl
+
+pub lexeme-no-end : {s : List ℕ} {k : Kind} {n : ℕ} → Lexeme s k n → k ≡ End → ⊥
+lexeme-no-end x e = true≢false (sym (ap is-end e) ∙ lexeme-goes-on x)

@@ -5,3 +5,4 @@ pub mod Fronts
 pub mod Gaps
 pub mod Cuts
 pub mod Lexemes
+pub mod Scans

@@ -3,3 +3,4 @@ pub mod Spelling
 pub mod Runs
 pub mod Refusals
 pub mod Tokens
+pub mod Scan

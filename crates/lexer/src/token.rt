@@ -1,6 +1,6 @@
 // Tokens: what a recipe is cut into.
 ghost use mathlib.Core.Path.{_≡_};
-ghost use lib.ListN.{length};
+ghost use lib.ListN.{length, take, drop};
 ghost use Rattle.lexer.specs.Spelling.{signText};
 
 /// The words that are no names.
@@ -88,5 +88,16 @@ impl Operator {
             | Operator::OrOr => 2,
             _ => 1,
         }
+    }
+}
+
+impl Token {
+    /// The part of the recipe that the token is.
+    pub fn text<'t>(&self, recipe: &'t [u8]) -> &'t [u8]
+        ensures { λ r. ⌜ now r ≡ take (now (self .entry) .len) (drop (now (self .entry) .place) (now (recipe .entry))) ⌝ }
+    {
+        let from = self.place.min(recipe.len());
+        let rest = &recipe[from..];
+        &rest[0..self.len.min(rest.len())]
     }
 }
