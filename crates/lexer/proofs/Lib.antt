@@ -6,3 +6,4 @@ pub mod Gaps
 pub mod Cuts
 pub mod Lexemes
 pub mod Scans
+pub mod Worked

@@ -4,3 +4,4 @@ pub mod Runs
 pub mod Refusals
 pub mod Tokens
 pub mod Scan
+pub mod Examples
