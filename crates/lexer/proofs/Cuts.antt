@@ -15,11 +15,12 @@ cut-append nothing d = d
 cut-append (a-gap g c) d = a-gap g (cut-append c d)
 cut-append (a-token x c) d = a-token x (cut-append c d)
 
-pub gap-after : {text : List ℕ} {p q n : ℕ} {ts : List Token} → Cut text p q ts → Gap (drop q text) n → Cut text p (q + n) ts
-gap-after {text} {p} {q} {n} {ts} c g = subst (Cut text p (q + n)) (append-nil ts) (cut-append c (a-gap g nothing))
+-- blanks and comments behind a part change no token
+pub gaps-after : {text : List ℕ} {p q r : ℕ} {ts : List Token} → Cut text p q ts → Cut text q r [] → Cut text p r ts
+gaps-after {text} {p} {q} {r} {ts} c d = subst (Cut text p r) (append-nil ts) (cut-append c d)
 
-pub token-after : {text : List ℕ} {p q n : ℕ} {k : Kind} {ts : List Token} → Cut text p q ts → Lexeme (drop q text) k n → Cut text p (q + n) (ts ++ record { kind = k; place = q; len = n } ∷ [])
-token-after c x = cut-append c (a-token x nothing)
+pub gap-after : {text : List ℕ} {p q n : ℕ} {ts : List Token} → Cut text p q ts → Gap (drop q text) n → Cut text p (q + n) ts
+gap-after c g = gaps-after c (a-gap g nothing)
 
 -- a gap or a token at p leaves p behind and does not pass the end
 pub gap-inside : (text : List ℕ) (p n : ℕ) → Gap (drop p text) n → (p < p + n) × (p + n ≤ length text)

@@ -28,12 +28,10 @@ abbrev pub Stepped : List ℕ → ℕ → Result Token Refusal → Type 0
 Stepped text at (Ok token) = Next text at token
 Stepped text at (Err e) = NoNext text at (numberOf (e .reason)) (e .place)
 
--- an accepted text: of at most 65,536 bytes, n tokens, and no other list of tokens
-pub record Accepted (text : List ℕ) (n : ℕ) : Type 0 where
+-- an accepted text: it has at most 65,536 bytes, and is these tokens and no others
+pub record Accepted (text : List ℕ) (tokens : List Token) : Type 0 where
   pub short : length text ≤ 65536
-  pub tokens : List Token
   pub cut : Cut text 0 (length text) tokens
-  pub count : length tokens ≡ n
   pub only : (ts : List Token) → Cut text 0 (length text) ts → ts ≡ tokens
 
 -- a refused text: the refusal's number and place
@@ -43,7 +41,7 @@ pub data Refused (text : List ℕ) : ℕ → ℕ → Type 0 where
   -- 3 or 4: up to its place the text is tokens, there it cannot go on, and so the whole text is no list of tokens
   cannot-go-on : {number p : ℕ} {ts : List Token} → length text ≤ 65536 → Cut text 0 p ts → Bad (drop p text) number → ((us : List Token) → Cut text 0 (length text) us → ⊥) → Refused text number p
 
--- the answer to a whole text
+-- the answer to a whole text: how many tokens it is, or the refusal
 abbrev pub Scanned : List ℕ → Result ℕ Refusal → Type 0
-Scanned text (Ok n) = Accepted text n
+Scanned text (Ok n) = (tokens : List Token) × Accepted text tokens × (length tokens ≡ n)
 Scanned text (Err e) = Refused text (numberOf (e .reason)) (e .place)

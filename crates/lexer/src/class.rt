@@ -1,7 +1,6 @@
 // The class of a byte, by a table.
 ghost use mathlib.Core.Path.{_≡_};
 ghost use Rattle.lexer.specs.Classes.{classOf};
-
 use self::Class::Blank;
 use self::Class::Digit;
 use self::Class::Letter;

@@ -12,7 +12,6 @@ ghost use Rattle.lexer.specs.Classes.{letter as isLetter, digit as isDigit, si
 ghost use Rattle.lexer.specs.Refusals.{numberOf};
 ghost use Rattle.lexer.specs.Spelling.{signText, Begins};
 ghost use Rattle.lexer.specs.Tokens.{Escape, Plain as PlainForm, Escaped as EscapedForm, Gap, Lexeme, Bad};
-
 use crate::class::Class;
 use crate::class::class_of;
 use crate::refusal::Reason;
@@ -49,7 +48,10 @@ fn number(s: &[u8]) -> Result<Front, Reason>
 {
     let len = Run::Digits.len_in(s);
     match number_value(&s[0..len]) {
-        Some(value) => Ok(Front { kind: Kind::Number(value), len }),
+        Some(value) => Ok(Front {
+            kind: Kind::Number(value),
+            len,
+        }),
         None => Err(Reason::NumberTooLarge),
     }
 }
@@ -94,13 +96,22 @@ fn marked(s: &[u8]) -> Option<Front>
     ensures { λ r. ⌜ BySome r ((k : AnyKind) (n : ℕ) → Lexeme (now (s .entry)) k n → signByte (getD (now (s .entry)) 0 0) ≡ true → ⊥) (λ f. Lexeme (now (s .entry)) (f .kind) (f .len)) ⌝ }
 {
     if let Some(sign) = sign(s) {
-        return Some(Front { kind: Kind::Sign(sign), len: sign.len() });
+        return Some(Front {
+            kind: Kind::Sign(sign),
+            len: sign.len(),
+        });
     }
     if let Some(byte) = plain(s) {
-        return Some(Front { kind: Kind::Character(byte), len: 3 });
+        return Some(Front {
+            kind: Kind::Character(byte),
+            len: 3,
+        });
     }
     if let Some(byte) = escaped(s) {
-        return Some(Front { kind: Kind::Character(byte), len: 4 });
+        return Some(Front {
+            kind: Kind::Character(byte),
+            len: 4,
+        });
     }
     None
 }

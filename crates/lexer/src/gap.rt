@@ -6,7 +6,6 @@ ghost use lib.ListN.{drop};
 ghost use Rattle.std.specs.Options.{Cases as BySome};
 ghost use Rattle.lexer.specs.Spelling.{Begins};
 ghost use Rattle.lexer.specs.Tokens.{Gap, Cut};
-
 use crate::class::Class;
 use crate::class::class_of;
 use crate::run::Run;

@@ -16,15 +16,14 @@ mod word;
 
 pub use class::Class;
 pub use class::class_of;
+use front::token_at_front;
+use gap::skip_gaps;
 pub use refusal::Reason;
 pub use refusal::Refusal;
 pub use token::Keyword;
 pub use token::Kind;
 pub use token::Operator;
 pub use token::Token;
-
-use front::token_at_front;
-use gap::skip_gaps;
 
 /// A recipe has at most so many bytes.
 pub const MAX_TEXT: usize = 65_536;
@@ -35,10 +34,18 @@ pub fn next(text: &[u8], at: usize) -> Result<Token, Refusal>
 {
     let place = skip_gaps(text, at);
     if place >= text.len() {
-        return Ok(Token { kind: Kind::End, place, len: 0 });
+        return Ok(Token {
+            kind: Kind::End,
+            place,
+            len: 0,
+        });
     }
     match token_at_front(&text[place..]) {
-        Ok(front) => Ok(Token { kind: front.kind, place, len: front.len }),
+        Ok(front) => Ok(Token {
+            kind: front.kind,
+            place,
+            len: front.len,
+        }),
         Err(reason) => Err(Refusal { reason, place }),
     }
 }
@@ -49,7 +56,10 @@ pub fn scan(text: &[u8]) -> Result<usize, Refusal>
     ensures examples { λ _. ⌜ Examples ⌝ }
 {
     if text.len() > MAX_TEXT {
-        return Err(Refusal { reason: Reason::TextTooLong, place: 0 });
+        return Err(Refusal {
+            reason: Reason::TextTooLong,
+            place: 0,
+        });
     }
     let mut at = 0;
     let mut count = 0;
@@ -127,14 +137,27 @@ mod tests {
         let mut text = vec![in rt.alloc(); b' '; 65_536]?;
         check_eq(scan(&text), Ok(0))?;
         text.push(b' ')?;
-        check_eq(scan(&text), Err(Refusal { reason: Reason::TextTooLong, place: 0 }))
+        check_eq(
+            scan(&text),
+            Err(Refusal {
+                reason: Reason::TextTooLong,
+                place: 0,
+            }),
+        )
     }
 
     #[test]
     fn parts() -> Result<(), Fail> {
         let recipe = b"read ( x1 );";
         let token = next(recipe, 6)?;
-        check_eq(token, Token { kind: Kind::Name, place: 7, len: 2 })?;
+        check_eq(
+            token,
+            Token {
+                kind: Kind::Name,
+                place: 7,
+                len: 2,
+            },
+        )?;
         check(token.text(recipe) == b"x1")?;
         check_eq(next(recipe, 12)?.kind, Kind::End)
     }

@@ -7,7 +7,6 @@ ghost use Rattle.std.specs.Options.{Cases as BySome};
 ghost use Rattle.std.specs.shelf.Lists.{leading};
 ghost use Rattle.lexer.specs.Classes.{digit as isDigit};
 ghost use Rattle.lexer.specs.Runs.{inRun, decimal};
-
 use crate::class::Class;
 use crate::class::class_of;
 

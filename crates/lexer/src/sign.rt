@@ -6,7 +6,6 @@ ghost use lib.ListN.{length};
 ghost use Rattle.std.specs.Options.{Cases as BySome};
 ghost use Rattle.lexer.specs.declared.token.Operator.{Operator as AnySign};
 ghost use Rattle.lexer.specs.Spelling.{signText, Begins};
-
 use crate::token::Operator;
 
 /// The sign of two bytes that `s` begins with.

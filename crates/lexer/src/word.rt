@@ -3,7 +3,6 @@ ghost use mathlib.Core.Path.{_≡_};
 ghost use Rattle.std.specs.Options.{Cases as BySome};
 ghost use Rattle.lexer.specs.declared.token.Keyword.{Keyword as AnyKeyword};
 ghost use Rattle.lexer.specs.Spelling.{keywordText};
-
 use crate::token::Keyword;
 
 /// The keyword that is spelled so, if one is.
