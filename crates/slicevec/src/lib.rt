@@ -161,28 +161,31 @@ mod tests {
         let mut memory = [Step::Stay; 2];
         let mut steps = SliceVec::new(&mut memory);
         check(steps.is_empty())?;
-        check_eq(steps.room_left(), 2)?;
-        check_eq(steps.push(Step::Go(7)), Ok(0))?;
-        check_eq(steps.push(Step::Stay), Ok(1))?;
-        check_eq(steps.room_left(), 0)?;
-        check_eq(steps.push(Step::Go(9)), Err(Full))?;
-        check_eq(steps.len(), 2)?;
-        check_eq(steps.get(0), Some(Step::Go(7)))?;
-        check_eq(steps.get(1), Some(Step::Stay))?;
-        check_eq(steps.get(2), None)
+        let pushed = [
+            steps.push(Step::Go(7)),
+            steps.push(Step::Stay),
+            steps.push(Step::Go(9)),
+        ];
+        check_eq(pushed, [Ok(0), Ok(1), Err(Full)])?;
+        check_eq([steps.len(), steps.room_left()], [2, 0])?;
+        check_eq(
+            [steps.get(0), steps.get(1), steps.get(2)],
+            [Some(Step::Go(7)), Some(Step::Stay), None],
+        )
     }
 
     #[test]
     fn set_leaves_the_others() -> Result<(), Fail> {
         let mut memory = [Step::Stay; 4];
         let mut steps = SliceVec::new(&mut memory);
-        check_eq(steps.push(Step::Go(1)), Ok(0))?;
-        check_eq(steps.push(Step::Go(2)), Ok(1))?;
-        check(steps.set(1, Step::Go(5)))?;
-        check(!steps.set(2, Step::Go(6)))?;
-        check_eq(steps.get(0), Some(Step::Go(1)))?;
-        check_eq(steps.get(1), Some(Step::Go(5)))?;
-        check_eq(steps.get(2), None)?;
+        let _ = steps.push(Step::Go(1));
+        let _ = steps.push(Step::Go(2));
+        let set = [steps.set(1, Step::Go(5)), steps.set(2, Step::Go(6))];
+        check_eq(set, [true, false])?;
+        check_eq(
+            [steps.get(0), steps.get(1), steps.get(2)],
+            [Some(Step::Go(1)), Some(Step::Go(5)), None],
+        )?;
         check_eq(memory, [Step::Go(1), Step::Go(5), Step::Stay, Step::Stay])
     }
 
@@ -190,14 +193,16 @@ mod tests {
     fn truncate_then_push() -> Result<(), Fail> {
         let mut memory = [Step::Stay; 3];
         let mut steps = SliceVec::new(&mut memory);
-        check_eq(steps.push(Step::Go(1)), Ok(0))?;
-        check_eq(steps.push(Step::Go(2)), Ok(1))?;
+        let _ = steps.push(Step::Go(1));
+        let _ = steps.push(Step::Go(2));
         steps.truncate(5);
-        check_eq(steps.len(), 2)?;
+        let before = steps.len();
         steps.truncate(1);
-        check_eq(steps.get(1), None)?;
+        check_eq([before, steps.len()], [2, 1])?;
         check_eq(steps.push(Step::Go(3)), Ok(1))?;
-        check_eq(steps.get(0), Some(Step::Go(1)))?;
-        check_eq(steps.get(1), Some(Step::Go(3)))
+        check_eq(
+            [steps.get(0), steps.get(1)],
+            [Some(Step::Go(1)), Some(Step::Go(3))],
+        )
     }
 }
