@@ -34,11 +34,23 @@ impl<'a, T: Copy> SliceVec<'a, T> {
         SliceVec { entries, taken: 0 }
     }
 
+    /// The entries taken.
+    pub fn as_slice(&self) -> &[T]
+        ensures { λ r. ⌜ now r ≡ held (now (self .entry)) ⌝ }
+    {
+        let entries: &[T] = self.entries;
+        if self.taken < entries.len() {
+            &entries[..self.taken]
+        } else {
+            entries
+        }
+    }
+
     /// How many entries are taken.
     pub fn len(&self) -> usize
         ensures { λ r. ⌜ r ≡ length (held (now (self .entry))) ⌝ }
     {
-        self.taken.min(self.entries.len())
+        self.as_slice().len()
     }
 
     /// Whether no entry is taken.
@@ -83,12 +95,7 @@ impl<'a, T: Copy> SliceVec<'a, T> {
     pub fn get(&self, i: usize) -> Option<T>
         ensures { λ r. ⌜ BySome r (length (held (now (self .entry))) ≤ i) (λ x. (i < length (held (now (self .entry)))) × (x ≡ getD (held (now (self .entry))) i x)) ⌝ }
     {
-        let entries: &[T] = self.entries;
-        if i < self.len() {
-            Some(entries[i])
-        } else {
-            None
-        }
+        self.as_slice().get(i).copied()
     }
 
     /// Puts `x` in the place of the entry at `i` and answers whether such an entry is taken; no other entry changes.
