@@ -15,7 +15,7 @@ use Rattle.lexer.specs.declared.token.Kind.{Kind}
 use Rattle.lexer.specs.declared.token.Kind.the-variants.{End, Name, Number, Character, Word, Sign}
 use Rattle.lexer.specs.declared.token.Token.{Token}
 
--- the bytes from n on, where blanks and comments stand: n bytes that are no token
+-- s begins with a blank or a comment, which takes n bytes and makes no token
 pub data Gap (s : List ℕ) : ℕ → Type 0 where
   -- a blank
   a-blank : 0 < length s → blank (getD s 0 0) ≡ true → Gap s 1
