@@ -1,0 +1,9 @@
+use borrow.Author.Needs.{needs}
+use Rattle.arith.proofs.Worked.{worked}
+use Rattle.arith.proofs.Operation.divides_by_zero.Needs as need
+
+pub returns-in-Add : need.returns-in-Add
+returns-in-Add c = record { value = search needs; examples = worked }
+
+pub returns-in-Div : need.returns-in-Div
+returns-in-Div c = record { value = ?; examples = worked }
