@@ -1,14 +1,29 @@
 -- Quotients and remainders in a word of 32 bits. Assumes nothing.
 use mathlib.Core.Path.{_≡_, sym, ap, _∙_}
+use mathlib.Core.Bool.{Bool, true, false, cond}
 use Prim.Native.Nat.{ℕ, zero, suc, _+_, _/_, _%_, _^_, _<_, _≤_}
 use native.Mathlib.Nat.{mod-eq-of-lt, div-le-self}
 use native.Mathlib.Omega.{arith}
+use lib.Dec.{eqb, lt→ltb}
 use lib.IntN.{ℤ, pos, negsuc, negℤ}
 use lib.Signed.{mag, quotZ, remZ, mag-rem}
 use mir.Syntax.{w32}
 use mir.Val.{SFits, ofZ, toZ}
 use Rattle.std.specs.shelf.Signed.{wrapped}
 use Rattle.std.proofs.shelf.Signed.{wrapped-fits}
+use Rattle.std.proofs.shelf.Ways.{tells}
+use Rattle.std.specs.declared.option.Option.the-variants.{Some, None}
+use Rattle.arith.specs.Words.{WordOrNone, isZero}
+
+-- an answer that is a word where there is one
+pub word-or-none : (b : Bool) (z : ℤ) → SFits w32 z → WordOrNone (cond b None (Some z))
+word-or-none true z f = tt
+word-or-none false z f = lt→ltb (mag z) (2 ^ 31) (f .sfits)
+
+-- zero is the word whose bits are all zero
+pub zero-bits : (b : ℤ) → SFits w32 b → eqb (ofZ w32 b) 0 ≡ isZero b
+zero-bits (pos n) f = grind (arith, tells)
+zero-bits (negsuc n) f = grind (arith, tells)
 
 -- what has 32 bits is wrapped by taking those bits
 small-wrapped : (z : ℤ) → mag z < 2 ^ 32 → toZ w32 (ofZ w32 z) ≡ wrapped w32 z

@@ -7,12 +7,12 @@ use lib.IntN.{ℤ, pos, negsuc}
 use lib.ListN.{length, replicate}
 
 -- the digits of n, which has at most k of them: those of n / 10 if n is not one digit, and then n % 10
-abbrev pub digits : ℕ → ℕ → List ℕ
+unfoldable pub digits : ℕ → ℕ → List ℕ
 digits zero n = []
 digits (suc k) n = cond (ltb n 10) [] (digits k (n / 10)) ++ (48 + n % 10) ∷ []
 
 -- a word has at most ten digits, with a minus before them if it is negative
-abbrev pub decimal : ℤ → List ℕ
+unfoldable pub decimal : ℤ → List ℕ
 decimal (pos n) = digits 10 n
 decimal (negsuc n) = 45 ∷ digits 10 (suc n)
 

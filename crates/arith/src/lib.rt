@@ -26,8 +26,9 @@ impl Operation {
         ensures examples { λ _. ⌜ Examples ⌝ }
     {
         match self {
-            Operation::Div(_, b) | Operation::Rem(_, b) => b == 0,
-            Operation::Add(_, _) | Operation::Sub(_, _) | Operation::Mul(_, _) | Operation::Neg(_) => false,
+            Operation::Div(_, b) => b == 0,
+            Operation::Rem(_, b) => b == 0,
+            Operation::Add(..) | Operation::Sub(..) | Operation::Mul(..) | Operation::Neg(_) => false,
         }
     }
 }
