@@ -7,9 +7,14 @@ pub worked : Examples
 unfolding wrapped
 worked =
     record {
-      java-quotient = refl; stopping-quotient = refl;
-      java-remainder = refl; stopping-remainder = refl;
-      java-most = refl; stopping-most = refl;
-      java-least = refl; stopping-least = refl;
-      java-nothing-left = refl; stopping-nothing-left = refl
+      java-quotient = refl;
+      stopping-quotient = refl;
+      java-remainder = refl;
+      stopping-remainder = refl;
+      java-most = refl;
+      stopping-most = refl;
+      java-least = refl;
+      stopping-least = refl;
+      java-nothing-left = refl;
+      stopping-nothing-left = refl;
     }

@@ -1,10 +1,11 @@
 // Arithmetic on words of 32 bits by two rules, their order, and their decimal text.
 ghost use mathlib.Core.Path.{_≡_};
+ghost use mathlib.Core.Bool.{true, false};
 ghost use lib.IntN.{ℤ};
 ghost use Rattle.std.specs.declared.option.Option.{Option as Maybe};
 ghost use Rattle.arith.specs.declared.Operation.{Operation as Asked};
 ghost use Rattle.arith.specs.Examples.{Examples};
-ghost use Rattle.arith.specs.Words.{WordOrNone, byZero, java, related, stopping};
+ghost use Rattle.arith.specs.Words.{SameMeaning, WordOrNone, byZero, java, ofWords, related, stopping};
 
 pub mod text;
 
@@ -28,7 +29,8 @@ impl Operation {
         match self {
             Operation::Div(_, b) => b == 0,
             Operation::Rem(_, b) => b == 0,
-            Operation::Add(..) | Operation::Sub(..) | Operation::Mul(..) | Operation::Neg(_) => false,
+            Operation::Add(..) | Operation::Sub(..) | Operation::Mul(..) | Operation::Neg(_) =>
+                false,
         }
     }
 }
@@ -55,14 +57,16 @@ pub impl Arithmetic for Java as JavaArithmetic {
         if operation.divides_by_zero() {
             return None;
         }
-        Some(match operation {
-            Operation::Add(a, b) => a.wrapping_add(b),
-            Operation::Sub(a, b) => a.wrapping_sub(b),
-            Operation::Mul(a, b) => a.wrapping_mul(b),
-            Operation::Div(a, b) => a.wrapping_div(b),
-            Operation::Rem(a, b) => a.wrapping_rem(b),
-            Operation::Neg(a) => a.wrapping_neg(),
-        })
+        Some(
+            match operation {
+                Operation::Add(a, b) => a.wrapping_add(b),
+                Operation::Sub(a, b) => a.wrapping_sub(b),
+                Operation::Mul(a, b) => a.wrapping_mul(b),
+                Operation::Div(a, b) => a.wrapping_div(b),
+                Operation::Rem(a, b) => a.wrapping_rem(b),
+                Operation::Neg(a) => a.wrapping_neg(),
+            },
+        )
     }
 }
 
@@ -112,5 +116,57 @@ impl Relation {
             Relation::Greater => a > b,
             Relation::GreaterEqual => a >= b,
         }
+    }
+}
+
+#[cfg(test)]
+mod tests {
+    use super::*;
+    use std::test::*;
+
+    // Two arithmetics of one meaning answer alike.
+    fn agree<L: Arithmetic, R: Arithmetic>(left: &L, right: &R, operation: Operation) -> bool
+        ensures { λ r. ⌜ (SameMeaning (L·Arithmetic .meaning) (R·Arithmetic .meaning) → ofWords operation ≡ true → byZero operation ≡ false → r ≡ true) ⌝ }
+    {
+        left.compute(operation) == right.compute(operation)
+    }
+
+    #[test]
+    fn arithmetics_differ_where_the_result_is_no_word() -> Result<(), Fail> {
+        check(agree(&Java, &Stopping, Operation::Sub(i32::MIN + 1, 1)))?;
+        check(!agree(&Java, &Stopping, Operation::Sub(i32::MIN, 1)))?;
+        check(agree(&Java, &Stopping, Operation::Rem(i32::MIN, -1)))?;
+        check(!agree(&Java, &Stopping, Operation::Div(i32::MIN, -1)))?;
+        check(agree(&Java, &Stopping, Operation::Neg(i32::MAX)))?;
+        check(!agree(&Java, &Stopping, Operation::Neg(i32::MIN)))
+    }
+
+    #[test]
+    fn java_wraps_around() -> Result<(), Fail> {
+        check_eq(Java.compute(Operation::Add(i32::MAX, 1)), Some(i32::MIN))?;
+        check_eq(Java.compute(Operation::Mul(65_536, 65_537)), Some(65_536))?;
+        check_eq(Java.compute(Operation::Div(-7, 2)), Some(-3))?;
+        check_eq(Java.compute(Operation::Rem(-7, 2)), Some(-1))?;
+        check_eq(Java.compute(Operation::Rem(7, 0)), None)
+    }
+
+    #[test]
+    fn stopping_has_no_answer_out_of_range() -> Result<(), Fail> {
+        check_eq(Stopping.compute(Operation::Add(i32::MAX, 1)), None)?;
+        check_eq(Stopping.compute(Operation::Mul(46_341, 46_341)), None)?;
+        check_eq(
+            Stopping.compute(Operation::Mul(46_340, -46_340)),
+            Some(-2_147_395_600),
+        )?;
+        check_eq(Stopping.compute(Operation::Div(7, -2)), Some(-3))?;
+        check_eq(Stopping.compute(Operation::Div(7, 0)), None)
+    }
+
+    #[test]
+    fn relations_order_signed_words() -> Result<(), Fail> {
+        check(Relation::Less.holds(i32::MIN, i32::MAX))?;
+        check(!Relation::Less.holds(3, 3) && Relation::LessEqual.holds(3, 3))?;
+        check(!Relation::Greater.holds(3, 3) && Relation::GreaterEqual.holds(3, 3))?;
+        check(Relation::Equal.holds(-1, -1) && Relation::NotEqual.holds(-1, 1))
     }
 }

@@ -6,7 +6,6 @@ ghost use lib.ListN.{drop};
 ghost use denote.Ref.{name};
 ghost use Rattle.arith.specs.Decimal.{decimal, padded};
 ghost use Rattle.arith.specs.Printed.{Printed};
-
 use slicevec::Full;
 use slicevec::SliceVec;
 
@@ -75,4 +74,36 @@ fn spell(value: i32) -> Numeral
         bytes[start] = b'-';
     }
     Numeral { bytes, start }
+}
+
+#[cfg(test)]
+mod tests {
+    use super::*;
+    use slicevec::FullDebug;
+    use slicevec::FullPartialEq;
+    use std::test::*;
+
+    #[test]
+    fn words_and_bytes_are_padded() -> Result<(), Fail> {
+        let mut memory = [b'.'; 24];
+        let mut page = SliceVec::new(&mut memory);
+        print_word(&mut page, i32::MIN, 0)?;
+        print_word(&mut page, 0, 3)?;
+        print_word(&mut page, -70, 3)?;
+        print_byte(&mut page, b'x', 2)?;
+        check_eq(page.as_slice(), b"-2147483648  0-70 x")?;
+        check_eq(&memory[19..], b".....")
+    }
+
+    #[test]
+    fn a_text_too_long_is_not_printed() -> Result<(), Fail> {
+        let mut memory = [b'.'; 4];
+        let mut page = SliceVec::new(&mut memory);
+        print_byte(&mut page, b'a', 1)?;
+        check_eq(print_word(&mut page, 1234, 0), Err(Full))?;
+        check_eq(print_word(&mut page, 1, 2_147_483_647), Err(Full))?;
+        print_word(&mut page, 123, 3)?;
+        check_eq(print_byte(&mut page, b'b', 0), Err(Full))?;
+        check_eq(page.as_slice(), b"a123")
+    }
 }

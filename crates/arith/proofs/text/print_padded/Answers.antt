@@ -11,7 +11,7 @@ pub returns-then-room-left-length : need.returns-then-room-left-length
 returns-then-room-left-length c =
     record {
       printed = record { page = refl; refused = simp (padded, length-append, length-replicate) (omega arith); size = refl };
-      lender = refl
+      lender = refl;
     }
 
 pub loop-holds : need.loop-holds
@@ -24,8 +24,7 @@ returns-in-Break-push c =
 
 pub loop-again : need.loop-again
 loop-again c =
-    let e = c .in-Continue-push .ensures tt in
-    (
+    let e = c .in-Continue-push .ensures tt in (
       e .pushed ∙ one-blank _ _ (c .loop .counter) _ (omega arith) (c .loop .inv .0),
       e .size ∙ c .loop .inv .1,
       e .lender ∙ c .loop .inv .2,
@@ -42,8 +41,7 @@ returns-in-Break-push-2 c =
 
 pub loop-byte-again : need.loop-byte-again
 loop-byte-again c =
-    let e = c .in-Continue-push-2 .ensures tt in
-    (
+    let e = c .in-Continue-push-2 .ensures tt in (
       e .pushed ∙ one-byte _ _ _ (c .loop-byte .byte-index) (omega arith) (c .loop-byte .inv .0),
       e .size ∙ c .loop-byte .inv .1,
       e .lender ∙ c .loop-byte .inv .2,
@@ -56,7 +54,7 @@ returns c =
           record {
             page = all-written _ _ _ (c .args .text .now) (c .loop .counter) (c .loop-byte .byte-index) (c .args .width) (omega arith) (omega arith) (c .loop .inv .0) (c .loop-byte .inv .0);
             refused = simp (padded, length-append, length-replicate) (omega arith);
-            size = c .loop-byte .inv .1 ∙ c .loop .inv .1
+            size = c .loop-byte .inv .1 ∙ c .loop .inv .1;
           };
-      lender = c .loop-byte .inv .2 ∙ c .loop .inv .2
+      lender = c .loop-byte .inv .2 ∙ c .loop .inv .2;
     }

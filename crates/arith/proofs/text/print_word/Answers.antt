@@ -17,5 +17,5 @@ returns c =
           subst (λ (t : List ℕ). Printed (padded (c .args .width) t) (c .args .page .now) (p .last .page) (p .result))
           (take-rest (n .result .bytes) (n .result .start) ∙ n .ensures .text ∙ ap decimal (toZ-ofZ w32 (c .args .value) (c .fits .value)))
           (p .ensures .printed);
-      lender = p .ensures .lender
+      lender = p .ensures .lender;
     }

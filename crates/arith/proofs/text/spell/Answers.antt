@@ -14,8 +14,7 @@ use Rattle.arith.proofs.text.spell.Needs as need
 pub loop-rest-again : need.loop-rest-again
 loop-rest-again c =
     let l = c .loop-rest in
-    let less = shorter (l .start) (l .rest) (omega arith) (l .inv .3) in
-    (
+    let less = shorter (l .start) (l .rest) (omega arith) (l .inv .3) in (
       some-digit _ _ (c .if-rest-eq0 .left) less,
       omega arith,
       simp length-set (omega arith),
@@ -35,7 +34,7 @@ returns-then-value-lt0 c =
           ∙ ap (λ ds. 45 ∷ ds) (first-written _ _ _ _ (omega arith) (omega arith) (c .if-rest-eq0 .taken) (l .inv .4))
           ∙ with-minus _ _ (c .unsigned-abs-rest .ensures .value) (c .if-value-lt0 .taken)
           ∙ ap decimal (toZ-ofZ w32 (c .args .value) (c .fits .value));
-      within = omega arith
+      within = omega arith;
     }
 
 pub returns-else-value-lt0 : need.returns-else-value-lt0
@@ -46,5 +45,5 @@ returns-else-value-lt0 c =
           first-written _ _ _ _ (omega arith) (omega arith) (c .if-rest-eq0 .taken) (l .inv .4)
           ∙ with-no-sign _ _ (c .unsigned-abs-rest .ensures .value) (c .if-value-lt0 .left)
           ∙ ap decimal (toZ-ofZ w32 (c .args .value) (c .fits .value));
-      within = omega arith
+      within = omega arith;
     }
