@@ -70,10 +70,14 @@ ofWords (Neg a) = fits a
 abbrev pub SameMeaning : (Operation → Option ℤ) → (Operation → Option ℤ) → Type 0
 SameMeaning f g = (o : Operation) → ofWords o ≡ true → byZero o ≡ false → f o ≡ g o
 
+-- two whole numbers are equal: neither is above the other
+abbrev pub same : ℤ → ℤ → Bool
+same a b = leZ a b && leZ b a
+
 -- whether a relation holds between two whole numbers
 abbrev pub related : Relation → ℤ → ℤ → Bool
-related Equal a b = leZ a b && leZ b a
-related NotEqual a b = not (leZ a b && leZ b a)
+related Equal a b = same a b
+related NotEqual a b = not (same a b)
 related Less a b = ltZ a b
 related LessEqual a b = leZ a b
 related Greater a b = ltZ b a

@@ -1,4 +1,4 @@
-// The decimal text of a word, printed at the end of a page.
+// The decimal text of a word, printed at the end of a page: a page is the bytes that are printed so far.
 ghost use mathlib.Core.Path.{_≡_};
 ghost use mathlib.Core.List.{[], _∷_};
 ghost use Prim.Native.Nat.{_≤_};
