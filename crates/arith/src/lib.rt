@@ -3,7 +3,7 @@ ghost use mathlib.Core.Path.{_≡_};
 ghost use mathlib.Core.Bool.{true, false};
 ghost use lib.IntN.{ℤ};
 ghost use Rattle.std.specs.declared.option.Option.{Option as Maybe};
-ghost use Rattle.arith.specs.declared.Operation.{Operation as Asked};
+ghost use Rattle.arith.specs.declared.Operation.{Operation};
 ghost use Rattle.arith.specs.Examples.{Examples};
 ghost use Rattle.arith.specs.Words.{SameMeaning, WordOrNone, byZero, java, ofWords, related, stopping};
 
@@ -38,9 +38,9 @@ impl Operation {
 /// A rule by which each operation comes to a word, or to nothing where it is out of range.
 /// The answer hangs on the operands alone. A division by zero has no answer: who asks tests for zero before.
 pub trait Arithmetic {
-    ghost meaning: { Asked → Maybe ℤ };
+    ghost meaning: { Operation → Maybe ℤ };
 
-    law words: { (o : Asked) → WordOrNone (meaning o) };
+    law words: { (o : Operation) → WordOrNone (meaning o) };
 
     fn compute(&self, operation: Operation) -> Option<i32>
         ensures { λ r. ⌜ r ≡ meaning operation ⌝ };
