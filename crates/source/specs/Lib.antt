@@ -1,0 +1,4 @@
+pub mod Waiting
+pub mod Racks
+pub mod Rules
+pub mod Bytes
