@@ -1,0 +1,4 @@
+pub mod Pages
+pub mod Spelling
+pub mod Worked
+pub mod Wrapping

@@ -1,0 +1,4 @@
+pub mod Words
+pub mod Examples
+pub mod Decimal
+pub mod Printed
