@@ -1,0 +1,16 @@
+// Puts readings into a rack, and prints what the rack tells of them and what is read back from it.
+mod readings;
+
+use readings::Fault;
+use readings::readings;
+use std::error::AnyError;
+use std::io::Read;
+use std::io::Write;
+
+fn main(rt: LibcRuntime) -> Result<(), AnyError> {
+    let mut given = Vec::new(rt.alloc());
+    rt.stdin().read_to_end(&mut given)?;
+    let _ = readings(rt.alloc(), &given);
+    rt.stdout().write_all(b"")?;
+    Ok(())
+}
