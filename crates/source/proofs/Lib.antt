@@ -1,1 +1,4 @@
 pub mod Racks
+pub mod Steps
+pub mod Words
+pub mod Worked

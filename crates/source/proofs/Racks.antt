@@ -48,4 +48,3 @@ module _ (rs : List ℕ) (p t : ℕ) where
     rack-over bytes len e last =
         let ends : length (line (getD rs p 0)) ≤ t + 1 = omega (arith, ap length e, length-take len bytes) in
         sym (ap (drop 1) rack-front ∙ ap (λ l. l ++ rackText (drop (p + 1) rs)) (drop-all (t + 1) (line (getD rs p 0)) ends))
-

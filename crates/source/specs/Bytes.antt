@@ -1,24 +1,18 @@
--- What waits on a tape and in a rack are bytes: numbers below 256.
+-- What waits in a rack are bytes: numbers below 256.
 use mathlib.Core.Bool.{Bool, true, false, cond}
 use mathlib.Core.List.{List, [], _∷_}
-use mathlib.Core.Path.{_≡_, refl, sym, subst}
-use Prim.Native.Nat.{ℕ, zero, suc, _+_, _<_, _≤_, _/_}
+use mathlib.Core.Path.{_≡_, refl}
+use Prim.Native.Nat.{ℕ, zero, suc, _<_, _/_}
 use native.Mathlib.Omega.{arith}
 use borrow.Author.Tests.{leb-true}
 use lib.Chars.{codes}
 use lib.Dec.{leb, lit<}
 use lib.ListN.{getD, drop}
-use lib.Seq.{getD-drop}
 use Rattle.std.specs.Text.{Ascii}
 use Rattle.std.specs.Written.{decimal}
 use Rattle.std.proofs.shelf.Decimals.{ascii-decimal}
 use Rattle.std.proofs.shelf.Text.{ascii-append, ascii-drop}
 use Rattle.source.specs.Racks.{told, line, rackText, inRack}
-use Rattle.source.specs.Waiting.{onTape}
-
--- on a tape, where its text is bytes
-pub tapeBytes : (text : List ℕ) (place : ℕ) → ((i : ℕ) → getD text i 0 < 256) → (i : ℕ) → getD (onTape text place) i 0 < 256
-tapeBytes text place bytes i = subst (λ b. b < 256) (sym (getD-drop place text i 0)) (bytes (place + i))
 
 dead : Ascii (codes "-1")
 dead zero = lit< tt

@@ -1,7 +1,6 @@
 -- What waits in a source.
 use mathlib.Core.List.{List, [], _∷_}
 use Prim.Native.Nat.{ℕ}
-use lib.ListN.{drop}
 use Rattle.std.specs.declared.option.Option.{Option}
 use Rattle.std.specs.declared.option.Option.the-variants.{Some, None}
 
@@ -9,7 +8,3 @@ use Rattle.std.specs.declared.option.Option.the-variants.{Some, None}
 abbrev pub first : List ℕ → Option ℕ
 first [] = None
 first (b ∷ w) = Some b
-
--- on a tape waits the rest of its text
-abbrev pub onTape : List ℕ → ℕ → List ℕ
-onTape text place = drop place text

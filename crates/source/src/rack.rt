@@ -5,7 +5,6 @@ ghost use lib.ListN.{length, getD, take as front};
 ghost use denote.Ref.{now};
 ghost use Rattle.source.specs.Racks.{line, inRack, rackText};
 ghost use Rattle.source.specs.Bytes.{rackBytes};
-
 use crate::Source;
 
 /// The highest reading of a live probe, in hundredths of a percent.
@@ -26,13 +25,30 @@ fn line_of(reading: u16) -> Line
     let tenths = reading / 10;
     let last = b'0' + (tenths % 10) as u8;
     if reading > MAX_LIVE {
-        Line { bytes: [b'-', b'1', b'\n', 0], len: 3 }
+        Line {
+            bytes: [b'-', b'1', b'\n', 0],
+            len: 3,
+        }
     } else if tenths < 10 {
-        Line { bytes: [last, b'\n', 0, 0], len: 2 }
+        Line {
+            bytes: [last, b'\n', 0, 0],
+            len: 2,
+        }
     } else if tenths < 100 {
-        Line { bytes: [b'0' + (tenths / 10) as u8, last, b'\n', 0], len: 3 }
+        Line {
+            bytes: [b'0' + (tenths / 10) as u8, last, b'\n', 0],
+            len: 3,
+        }
     } else {
-        Line { bytes: [b'0' + (tenths / 100) as u8, b'0' + (tenths / 10 % 10) as u8, last, b'\n'], len: 4 }
+        Line {
+            bytes: [
+                b'0' + (tenths / 100) as u8,
+                b'0' + (tenths / 10 % 10) as u8,
+                last,
+                b'\n',
+            ],
+            len: 4,
+        }
     }
 }
 
@@ -50,7 +66,11 @@ impl<'a> Rack<'a> {
     pub fn new(readings: &'a [u16]) -> Rack<'a>
         ensures { λ r. ⌜ inRack (now (r .readings)) (r .place) (r .taken) ≡ rackText (now (readings .entry)) ⌝ }
     {
-        Rack { readings, place: 0, taken: 0 }
+        Rack {
+            readings,
+            place: 0,
+            taken: 0,
+        }
     }
 }
 
