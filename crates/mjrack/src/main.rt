@@ -1,8 +1,10 @@
 // Puts readings into a rack, and prints what the rack tells of them and what is read back from it.
 mod readings;
+mod report;
 
 use readings::Fault;
 use readings::readings;
+use report::report;
 use std::error::AnyError;
 use std::io::Read;
 use std::io::Write;
