@@ -1,4 +1,5 @@
 pub mod Racks
 pub mod Steps
 pub mod Words
+pub mod Tenths
 pub mod Worked
