@@ -2,15 +2,20 @@
 ghost use mathlib.Core.Bool.{cond};
 ghost use mathlib.Core.List.{List, _++_};
 ghost use mathlib.Core.Path.{_≡_};
+ghost use Prim.Native.Nat.{_<_};
 ghost use lib.IntN.{ℤ};
+ghost use lib.ListN.{length};
 ghost use Rattle.std.specs.Of.Vec.{vec-items};
 ghost use Rattle.std.specs.Vec.{made};
+ghost use Rattle.std.specs.Written.{decimal, signed};
 ghost use Rattle.source.specs.Racks.{rackText};
 ghost use Rattle.mjrack.specs.Report.{deadOf, isDead, javaSum, lastLine, ReadBack, Reported, sumOf};
 use arith::Arithmetic;
 use arith::Java;
+use arith::JavaArithmetic;
 use arith::Operation;
 use source::Rack;
+use source::RackSource;
 use source::Source;
 use source::read_int;
 use std::alloc::AllocError;
@@ -20,7 +25,7 @@ use std::alloc::Global;
 #[derive(Clone, Copy)]
 struct Totals {
     sum: i32,
-    dead: u64,
+    dead: usize,
 }
 
 // The text of a rack of these readings, taken byte by byte.
@@ -43,7 +48,7 @@ fn java_sum(a: i32, b: i32) -> i32
 }
 
 // 1 for -1, and 0 for any other int.
-fn dead_in(value: i32) -> u64
+fn dead_in(value: i32) -> usize
     ensures { λ r. ⌜ r ≡ cond (isDead value) 1 0 ⌝ }
 {
     if value == -1 {
@@ -53,8 +58,9 @@ fn dead_in(value: i32) -> u64
     }
 }
 
-// The totals of the ints read back from a rack of these readings.
-fn totals(readings: &[u16]) -> Totals
+// The totals of the ints read back from a rack of these readings, whose text is not too long to count.
+fn read_back(readings: &[u16]) -> Totals
+    requires { ⌜ length (rackText (now readings)) < 9223372036854775808 ⌝ }
     ensures { λ r. ⌜ ((zs : List ℤ) × ReadBack (rackText (now (readings .entry))) zs × (r .sum ≡ sumOf zs) × (r .dead ≡ deadOf zs)) ⌝ }
 {
     let mut rack = Rack::new(readings);
@@ -67,6 +73,22 @@ fn totals(readings: &[u16]) -> Totals
     Totals { sum, dead }
 }
 
+// Writes a number behind what is there.
+fn write_number(heap: Global, out: &mut Vec<u8>, number: usize) -> Result<(), AllocError>
+    ensures { λ r. ⌜ made r (λ _. vec-items (now (out .exit)) ≡ vec-items (now (out .entry)) ++ decimal number) ⌝ }
+{
+    let text = number.to_string(heap)?;
+    out.extend_from_slice(text.as_bytes())
+}
+
+// Writes an int behind what is there.
+fn write_int(heap: Global, out: &mut Vec<u8>, int: i32) -> Result<(), AllocError>
+    ensures { λ r. ⌜ made r (λ _. vec-items (now (out .exit)) ≡ vec-items (now (out .entry)) ++ signed int) ⌝ }
+{
+    let text = int.to_string(heap)?;
+    out.extend_from_slice(text.as_bytes())
+}
+
 // Writes the last line.
 fn write_last(
     heap: Global,
@@ -77,11 +99,11 @@ fn write_last(
     ensures { λ r. ⌜ made r (λ _. vec-items (now (out .exit)) ≡ vec-items (now (out .entry)) ++ lastLine many (totals .sum) (totals .dead)) ⌝ }
 {
     out.extend_from_slice(b"readings ")?;
-    out.extend_from_slice(many.to_string(heap)?.as_bytes())?;
+    write_number(heap, out, many)?;
     out.extend_from_slice(b", sum ")?;
-    out.extend_from_slice(totals.sum.to_string(heap)?.as_bytes())?;
+    write_int(heap, out, totals.sum)?;
     out.extend_from_slice(b", dead ")?;
-    out.extend_from_slice(totals.dead.to_string(heap)?.as_bytes())?;
+    write_number(heap, out, totals.dead)?;
     out.extend_from_slice(b"\n")
 }
 
@@ -90,6 +112,6 @@ pub(crate) fn report(heap: Global, readings: &[u16]) -> Result<Vec<u8>, AllocErr
     ensures { λ r. ⌜ made r (λ v. Reported (now (readings .entry)) (vec-items v)) ⌝ }
 {
     let mut out = told(heap, readings)?;
-    write_last(heap, &mut out, readings.len(), totals(readings))?;
+    write_last(heap, &mut out, readings.len(), read_back(readings))?;
     Ok(out)
 }

@@ -1,0 +1,4 @@
+use Rattle.mjrack.proofs.report.report.Needs as need
+
+pub returns : need.returns
+returns c = ?
