@@ -1,10 +1,9 @@
 // Puts readings into a rack, and prints what the rack tells of them and what is read back from it.
+mod output;
 mod readings;
 mod report;
 
-use readings::Fault;
-use readings::readings;
-use report::report;
+use output::output;
 use std::error::AnyError;
 use std::io::Read;
 use std::io::Write;
@@ -12,7 +11,7 @@ use std::io::Write;
 fn main(rt: LibcRuntime) -> Result<(), AnyError> {
     let mut given = Vec::new(rt.alloc());
     rt.stdin().read_to_end(&mut given)?;
-    let _ = readings(rt.alloc(), &given);
-    rt.stdout().write_all(b"")?;
+    let printed = output(rt.alloc(), &given)?;
+    rt.stdout().write_all(&printed)?;
     Ok(())
 }

@@ -73,8 +73,12 @@ fn read_back(readings: &[u16]) -> Totals
     Totals { sum, dead }
 }
 
-// Writes a number behind what is there.
-fn write_number(heap: Global, out: &mut Vec<u8>, number: usize) -> Result<(), AllocError>
+/// Writes a number behind what is there.
+pub(crate) fn write_number(
+    heap: Global,
+    out: &mut Vec<u8>,
+    number: usize,
+) -> Result<(), AllocError>
     ensures { λ r. ⌜ made r (λ _. vec-items (now (out .exit)) ≡ vec-items (now (out .entry)) ++ decimal number) ⌝ }
 {
     let text = number.to_string(heap)?;
