@@ -68,7 +68,10 @@ fn digits_of(text: &[u8]) -> Digits
         }
         value = (value * 10 + u32::from(*byte - b'0')).min(MAX_READING + 1);
     }
-    Digits { len: text.len(), value }
+    Digits {
+        len: text.len(),
+        value,
+    }
 }
 
 // Whether a line ends at `at`.
@@ -96,7 +99,10 @@ fn line_at(text: &[u8], at: usize) -> Option<Line>
     if !line_ends(text, end) {
         return None;
     }
-    Some(Line { reading: digits.value as u16, next: text.len().min(end + 1) })
+    Some(Line {
+        reading: digits.value as u16,
+        next: text.len().min(end + 1),
+    })
 }
 
 /// The readings of a text, one to a line.

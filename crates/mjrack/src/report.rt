@@ -51,11 +51,7 @@ fn java_sum(a: i32, b: i32) -> i32
 fn dead_in(value: i32) -> usize
     ensures { λ r. ⌜ r ≡ cond (isDead value) 1 0 ⌝ }
 {
-    if value == -1 {
-        1
-    } else {
-        0
-    }
+    if value == -1 { 1 } else { 0 }
 }
 
 // The totals of the ints read back from a rack of these readings, whose text is not too long to count.
@@ -74,11 +70,7 @@ fn read_back(readings: &[u16]) -> Totals
 }
 
 /// Writes a number behind what is there.
-pub(crate) fn write_number(
-    heap: Global,
-    out: &mut Vec<u8>,
-    number: usize,
-) -> Result<(), AllocError>
+pub(crate) fn write_number(heap: Global, out: &mut Vec<u8>, number: usize) -> Result<(), AllocError>
     ensures { λ r. ⌜ made r (λ _. vec-items (now (out .exit)) ≡ vec-items (now (out .entry)) ++ decimal number) ⌝ }
 {
     let text = number.to_string(heap)?;
