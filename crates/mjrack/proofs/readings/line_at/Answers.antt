@@ -1,4 +1,4 @@
-use mathlib.Core.Path.{_≡_, sym, subst}
+use mathlib.Core.Path.{sym, subst}
 use native.Mathlib.Omega.{arith}
 use Rattle.mjrack.specs.Lines.{Reading}
 use Rattle.mjrack.proofs.Lines.{no-digit, too-high, goes-on, one-reading}

@@ -1,15 +1,15 @@
 use borrow.Author.Needs.{needs}
 use mathlib.Core.Bool.{cond}
-use mathlib.Core.List.{List, [], _∷_, _++_}
+use mathlib.Core.List.{[], _∷_, _++_}
 use mathlib.Core.Path.{_≡_, refl, sym, ap, subst, _∙_}
 use Prim.Native.Nat.{_+_}
 use native.Mathlib.Omega.{arith}
-use lib.IntN.{ℤ, pos}
+use lib.IntN.{pos}
 use mir.Syntax.{w32}
 use mir.Val.{toZ, ofZ}
 use Rattle.std.proofs.shelf.Sums.{folded-push}
 use Rattle.source.specs.Racks.{rackText}
-use Rattle.mjrack.specs.Report.{javaSum, isDead, sumOf, deadOf, ReadSofar, untouched, one-more, ReadBack, until-failure}
+use Rattle.mjrack.specs.Report.{javaSum, isDead, sumOf, deadOf, ReadSofar, untouched, one-more, until-failure}
 use Rattle.mjrack.proofs.Waits.{int-shorter, dead-few}
 use Rattle.mjrack.proofs.report.read_back.Needs as need
 use Rattle.mjrack.proofs.report.read_back.Needs.{After-dead-in-dead}

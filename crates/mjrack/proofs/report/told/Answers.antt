@@ -1,14 +1,13 @@
 use mathlib.Core.List.{List, [], _∷_, _++_}
 use mathlib.Core.Path.{_≡_, sym, ap, subst, _∙_}
 use Prim.Native.Nat.{ℕ, _<_}
-use native.Mathlib.Omega.{arith}
 use denote.Ref.{now}
 use lib.ListN.{length, drop}
 use Rattle.std.specs.Of.Vec.{vec-items}
 use Rattle.source.specs.Racks.{rackText, inRack}
 use Rattle.mjrack.proofs.Waits.{byte-more, byte-done}
 use Rattle.mjrack.proofs.report.told.Needs as need
-use Rattle.mjrack.proofs.report.told.Needs.{In-Continue-push, In-rest}
+use Rattle.mjrack.proofs.report.told.Needs.{In-Continue-push}
 
 abbrev waits : In-Continue-push → List ℕ
 waits c = let rack = c .loop-byte .rack in inRack (now (rack .readings)) (rack .place) (rack .taken)
