@@ -7,10 +7,11 @@ use lib.IntN.{ℤ, pos, negsuc, _+ℤ_}
 use lib.ListN.{length}
 use mir.Syntax.{w32}
 use Rattle.std.specs.Iters.{folded}
-use Rattle.std.specs.Written.{decimal, signed}
+use Rattle.std.specs.Written.{decimal}
 use Rattle.std.specs.shelf.Lists.{countBy}
 use Rattle.std.specs.shelf.Signed.{wrapped}
 use Rattle.std.specs.declared.result.Result.the-variants.{Ok, Err}
+use Rattle.arith.specs.Decimal.{decimal as wordText}
 use Rattle.arith.specs.Words.{same}
 use Rattle.source.specs.Racks.{rackText}
 use Rattle.source.specs.Reading.{IntRead}
@@ -46,7 +47,7 @@ deadOf zs = countBy isDead zs
 
 -- the last line: how many readings, and the sum of the ints read back and how many of them are -1
 abbrev pub lastLine : ℕ → ℤ → ℕ → List ℕ
-lastLine many sum dead = codes "readings " ++ (decimal many ++ (codes ", sum " ++ (signed sum ++ (codes ", dead " ++ (decimal dead ++ codes "\n")))))
+lastLine many sum dead = codes "readings " ++ (decimal many ++ (codes ", sum " ++ (wordText sum ++ (codes ", dead " ++ (decimal dead ++ codes "\n")))))
 
 -- what is printed of readings
 pub data Reported (readings : List ℕ) : List ℕ → Type 0 where

@@ -7,13 +7,16 @@ ghost use lib.IntN.{ℤ};
 ghost use lib.ListN.{length};
 ghost use Rattle.std.specs.Of.Vec.{vec-items};
 ghost use Rattle.std.specs.Vec.{made};
-ghost use Rattle.std.specs.Written.{decimal, signed};
+ghost use Rattle.std.specs.Written.{decimal};
+ghost use Rattle.arith.specs.Decimal.{decimal as wordText};
 ghost use Rattle.source.specs.Racks.{rackText};
 ghost use Rattle.mjrack.specs.Report.{deadOf, isDead, javaSum, lastLine, ReadBack, Reported, sumOf};
 use arith::Arithmetic;
 use arith::Java;
 use arith::JavaArithmetic;
 use arith::Operation;
+use arith::text::print_word;
+use slicevec::SliceVec;
 use source::Rack;
 use source::RackSource;
 use source::Source;
@@ -78,11 +81,14 @@ pub(crate) fn write_number(heap: Global, out: &mut Vec<u8>, number: usize) -> Re
 }
 
 // Writes an int behind what is there.
-fn write_int(heap: Global, out: &mut Vec<u8>, int: i32) -> Result<(), AllocError>
-    ensures { λ r. ⌜ made r (λ _. vec-items (now (out .exit)) ≡ vec-items (now (out .entry)) ++ signed int) ⌝ }
+fn write_int(out: &mut Vec<u8>, int: i32) -> Result<(), AllocError>
+    ensures { λ r. ⌜ made r (λ _. vec-items (now (out .exit)) ≡ vec-items (now (out .entry)) ++ wordText int) ⌝ }
 {
-    let text = int.to_string(heap)?;
-    out.extend_from_slice(text.as_bytes())
+    // A minus and ten digits fit.
+    let mut memory = [0; 11];
+    let mut page = SliceVec::new(&mut memory);
+    let _ = print_word(&mut page, int, 0);
+    out.extend_from_slice(page.as_slice())
 }
 
 // Writes the last line.
@@ -97,7 +103,7 @@ fn write_last(
     out.extend_from_slice(b"readings ")?;
     write_number(heap, out, many)?;
     out.extend_from_slice(b", sum ")?;
-    write_int(heap, out, totals.sum)?;
+    write_int(out, totals.sum)?;
     out.extend_from_slice(b", dead ")?;
     write_number(heap, out, totals.dead)?;
     out.extend_from_slice(b"\n")
