@@ -1,4 +1,6 @@
 // Arithmetic on words of 32 bits by two rules, their order, and their decimal text.
+#![tactic(auto)]
+
 ghost use Rattle.std.specs.Prelude.{◌≡◌, true, false, ℤ, Option as Maybe};
 ghost use Rattle.arith.specs.declared.Operation.{Operation};
 ghost use Rattle.arith.specs.Examples.{Examples};

@@ -1,4 +1,6 @@
 // Compares the arithmetic that is proved to be Java's with a table that Java made.
+#![tactic(auto)]
+
 mod table;
 
 use arith::{Arithmetic, Java, Operation};

@@ -1,4 +1,6 @@
 // A bundle: what a program is given in one piece, a recipe and then, behind a line `%%`, the input of its run.
+#![tactic(auto)]
+
 ghost use Rattle.std.specs.Prelude.{◌≡◌, ◌<◌, length, ◌==◌, slice_index};
 ghost use Rattle.bundle.specs.Marks.{line_begins, line_ends, mark_at, Divided};
 

@@ -2,6 +2,8 @@
 //
 // A text is cut into tokens from left to right, each the longest that can stand at its place. Tokens are parts of the
 // text: nothing is copied, and no memory is needed.
+#![tactic(auto)]
+
 ghost use Rattle.lexer.specs.Examples.{Examples};
 ghost use Rattle.lexer.specs.Scan.{Stepped, Scanned};
 

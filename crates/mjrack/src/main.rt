@@ -1,4 +1,6 @@
 // Puts readings into a rack, and prints what the rack tells of them and what is read back from it.
+#![tactic(auto)]
+
 mod output;
 mod readings;
 mod report;

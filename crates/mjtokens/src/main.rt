@@ -1,4 +1,6 @@
 // Lists the tokens of a recipe: one line for each, and their count.
+#![tactic(auto)]
+
 mod listing;
 
 use bundle::divide;

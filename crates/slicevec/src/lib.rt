@@ -1,4 +1,6 @@
 // A growable sequence over a lent slice.
+#![tactic(auto)]
+
 ghost use Rattle.std.specs.Prelude.{◌≡◌, ◌-◌, ◌<◌, ◌≤◌, [], ◌∷◌, ◌++◌, length, take, if◌then◌else◌, MatchOption, MatchResult, ◌==◌, nat_lt, slice_index_or, slice_set};
 ghost use Rattle.slicevec.specs.Held.{held, room};
 

@@ -1,4 +1,6 @@
 // Sources of bytes, and the reading of numbers and characters from any of them.
+#![tactic(auto)]
+
 ghost use Rattle.std.specs.Prelude.{◌≡◌, ℕ, ◌<◌, List, drop, slice_index};
 ghost use Rattle.source.specs.Waiting.{first};
 

@@ -1,4 +1,6 @@
 // The tree of a recipe.
+#![tactic(auto)]
+
 mod grammar;
 mod node;
 mod parser;

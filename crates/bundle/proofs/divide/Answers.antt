@@ -22,11 +22,11 @@ here bytes p past e mark first =
 pub loop-at-init : goal.loop-at-init
 loop-at-init c q h = absurd (omega arith)
 
-pub returns-then-is-mark : goal.returns-then-is-mark
-returns-then-is-mark c = here c.args.bytes.now c.loop-at.at c.min-past.result c.min-past.ensures (sym c.if-is-mark.ensures) c.loop-at.invariant
+pub returns-then-is_mark : goal.returns-then-is_mark
+returns-then-is_mark c = here c.args.bytes.now c.loop-at.at c.min-past.result c.min-past.ensures (sym c.if-is_mark.ensures) c.loop-at.invariant
 
 pub loop-at-preserved : goal.loop-at-preserved
-loop-at-preserved c = below_more _ _ c.loop-at.invariant (sym c.if-is-mark.ensures)
+loop-at-preserved c = below_more _ _ c.loop-at.invariant (sym c.if-is_mark.ensures)
 
 pub returns : goal.returns
 returns c = no_mark (λ p. ⊎_elim (λ h. c.loop-at.invariant p (omega arith)) (λ h. past_end c.args.bytes.now p h) (order p (length c.args.bytes.now)))

@@ -5,8 +5,8 @@ use Rattle.arith.specs.Decimal.{padded}
 use Rattle.arith.proofs.Pages.{no_blank, one_blank, one_byte, all_written}
 use Rattle.arith.proofs.text.print_padded.Goals as goal
 
-pub returns-then-room-left-length : goal.returns-then-room-left-length
-returns-then-room-left-length c =
+pub returns-then-room_left-length : goal.returns-then-room_left-length
+returns-then-room_left-length c =
     record {
       printed = record { page = refl; refused = simp (padded, length-append, length-replicate) (omega arith); size = refl };
       lender = refl;
@@ -15,14 +15,14 @@ returns-then-room-left-length c =
 pub loop-init : goal.loop-init
 loop-init c = (no_blank _ _, refl, refl)
 
-pub returns-in-err-push : goal.returns-in-err-push
-returns-in-err-push c =
+pub returns-in_err-push : goal.returns-in_err-push
+returns-in_err-push c =
     let long = simp (length-append, length-replicate) at (ap length c.loop.invariant.0) in
-    absurd (omega (arith, long, c.in-err-push.ensures.refused))
+    absurd (omega (arith, long, c.in_err-push.ensures.refused))
 
 pub loop-preserved : goal.loop-preserved
 loop-preserved c =
-    let e = c.in-ok-push.ensures in (
+    let e = c.in_ok-push.ensures in (
       e.pushed ∙ one_blank _ _ c.loop.counter _ (omega arith) c.loop.invariant.0,
       e.size ∙ c.loop.invariant.1,
       e.lender ∙ c.loop.invariant.2,
@@ -31,15 +31,15 @@ loop-preserved c =
 pub loop-byte-init : goal.loop-byte-init
 loop-byte-init c = (sym (append-nil _), refl, refl)
 
-pub returns-in-err-push-2 : goal.returns-in-err-push-2
-returns-in-err-push-2 c =
+pub returns-in_err-push-2 : goal.returns-in_err-push-2
+returns-in_err-push-2 c =
     let blank = simp (length-append, length-replicate) at (ap length c.loop.invariant.0) in
     let long = simp length-append at (ap length c.loop-byte.invariant.0) in
-    absurd (omega (arith, blank, long, length-take c.loop-byte.byte-index c.args.text.now, c.in-err-push-2.ensures.refused))
+    absurd (omega (arith, blank, long, length-take c.loop-byte.byte-index c.args.text.now, c.in_err-push-2.ensures.refused))
 
 pub loop-byte-preserved : goal.loop-byte-preserved
 loop-byte-preserved c =
-    let e = c.in-ok-push-2.ensures in (
+    let e = c.in_ok-push-2.ensures in (
       e.pushed ∙ one_byte _ _ _ c.loop-byte.byte-index (omega arith) c.loop-byte.invariant.0,
       e.size ∙ c.loop-byte.invariant.1,
       e.lender ∙ c.loop-byte.invariant.2,

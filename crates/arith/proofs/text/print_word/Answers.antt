@@ -8,7 +8,7 @@ use Rattle.arith.proofs.text.print_word.Goals as goal
 pub returns : goal.returns
 returns c =
     let n = c.spell-numeral in
-    let p = c.print-padded in
+    let p = c.print_padded in
     record {
       printed =
           subst (λ (t : List ℕ). Printed (padded c.args.width t) c.args.page.now p.new.page p.result)

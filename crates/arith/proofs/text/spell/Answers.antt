@@ -26,7 +26,7 @@ returns-then-value-lt0 c =
           drop-set written (l.start - 1) 45 (simp length-set (omega arith))
           ∙ ap (λ i. 45 ∷ drop i written) back
           ∙ ap (λ ds. 45 ∷ ds) (first_written _ _ _ _ (omega arith) (omega arith) c.if-rest-eq0.true l.invariant.4)
-          ∙ with_minus _ _ c.unsigned-abs-rest.ensures.value c.if-value-lt0.true
+          ∙ with_minus _ _ c.unsigned_abs-rest.ensures.value c.if-value-lt0.true
           ∙ ap decimal (to_z-of_z w32 c.args.value c.ranges.value);
       within = omega arith;
     }
@@ -37,7 +37,7 @@ returns-else-value-lt0 c =
     record {
       text =
           first_written _ _ _ _ (omega arith) (omega arith) c.if-rest-eq0.true l.invariant.4
-          ∙ with_no_sign _ _ c.unsigned-abs-rest.ensures.value c.if-value-lt0.false
+          ∙ with_no_sign _ _ c.unsigned_abs-rest.ensures.value c.if-value-lt0.false
           ∙ ap decimal (to_z-of_z w32 c.args.value c.ranges.value);
       within = omega arith;
     }

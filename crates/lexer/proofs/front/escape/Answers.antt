@@ -8,5 +8,5 @@ returns-in-r c = escape_r c.args.letter (search rules)
 pub returns-in-n : goal.returns-in-n
 returns-in-n c = escape_n c.args.letter (search rules)
 
-pub returns-in-default : goal.returns-in-default
-returns-in-default c byte e = no_escape (search rules) (search rules) e
+pub returns-in_default : goal.returns-in_default
+returns-in_default c byte e = no_escape (search rules) (search rules) e

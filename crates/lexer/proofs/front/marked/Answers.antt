@@ -14,4 +14,4 @@ pub returns-in-Some-escaped : goal.returns-in-Some-escaped
 returns-in-Some-escaped c = an_escape c.in-Some-escaped.ensures
 
 pub returns : goal.returns
-returns c = no_marked c.args.s.now c.in-default.ensures c.in-default-plain.ensures c.in-default-escaped.ensures
+returns c = no_marked c.args.s.now c.in_default.ensures c.in_default-plain.ensures c.in_default-escaped.ensures

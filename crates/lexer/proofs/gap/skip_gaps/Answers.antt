@@ -15,8 +15,8 @@ inside c = gap_inside c.args.text.now c.loop-place.place c.in-Some.n (here c)
 pub loop-place-init : goal.loop-place-init
 loop-place-init c = nothing
 
-pub overflow-add-place : goal.overflow-add-place
-overflow-add-place c = omega (arith, inside c, c.well-formed)
+pub overflow_add-place : goal.overflow_add-place
+overflow_add-place c = omega (arith, inside c, c.well_formed)
 
 pub loop-place-smaller : goal.loop-place-smaller
 loop-place-smaller c = omega (arith, inside c)

@@ -3,8 +3,8 @@ use Rattle.lexer.specs.Runs.{decimal}
 use Rattle.lexer.proofs.Numbers.{decimal_more, decimal_grows}
 use Rattle.lexer.proofs.run.number_value.Goals as goal
 
-pub returns-then-value-gt-MAX-NUMBER : goal.returns-then-value-gt-MAX-NUMBER
-returns-then-value-gt-MAX-NUMBER c =
+pub returns-then-value-gt-MAX_NUMBER : goal.returns-then-value-gt-MAX_NUMBER
+returns-then-value-gt-MAX_NUMBER c =
     let digits = c.args.digits.now in
     let i = c.loop-byte.byte-index in
     omega (arith, c.loop-byte.invariant, decimal_more digits i (omega arith), decimal_grows digits (i + 1))

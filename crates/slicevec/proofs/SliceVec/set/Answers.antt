@@ -3,8 +3,8 @@ use lib.Seq.{take-set-lt}
 use Rattle.std.proofs.lemmas.List.{set_past}
 use Rattle.slicevec.proofs.SliceVec.set.Goals as goal
 
-pub offset-bounds-self-i : goal.offset-bounds-self-i
-offset-bounds-self-i g c = search (rules, length-take)
+pub offset_bounds-self-i : goal.offset_bounds-self-i
+offset_bounds-self-i g c = search (rules, length-take)
 
 pub bounds-self-i : goal.bounds-self-i
 bounds-self-i g c = search (rules, length-take)
