@@ -60,7 +60,7 @@ fn digit(next: Option<u8>) -> Option<u64>
 
 // Takes the blanks in front.
 fn skip_blanks<S: Source>(source: &mut S)
-    ensures { waiting source.new ≡ after_blanks (waiting source.old) }
+    ensures { S.waiting source.new ≡ after_blanks (S.waiting source.old) }
 {
     while is_blank(source.look()) {
         let _ = source.take();
@@ -69,8 +69,8 @@ fn skip_blanks<S: Source>(source: &mut S)
 
 // Takes a minus, if one is next.
 fn take_minus<S: Source>(source: &mut S) -> bool
-    ensures answer { result ≡ minus_next (waiting source.old) }
-    ensures rest { waiting source.new ≡ after_minus (waiting source.old) }
+    ensures answer { result ≡ minus_next (S.waiting source.old) }
+    ensures rest { S.waiting source.new ≡ after_minus (S.waiting source.old) }
 {
     let minus = is_minus(source.look());
     if minus {
@@ -82,8 +82,8 @@ fn take_minus<S: Source>(source: &mut S) -> bool
 // Takes the digits in front, which go on with an amount; in the place of a larger one stands `TOO_LARGE`.
 fn more_digits<S: Source>(source: &mut S, begun: u64) -> u64
     requires { begun ≤ 2147483649 }
-    ensures amount { result ≡ min (goes_on begun (digits_of (waiting source.old))) 2147483649 }
-    ensures rest { waiting source.new ≡ after_digits (waiting source.old) }
+    ensures amount { result ≡ min (goes_on begun (digits_of (S.waiting source.old))) 2147483649 }
+    ensures rest { S.waiting source.new ≡ after_digits (S.waiting source.old) }
 {
     let mut amount = begun;
     while let Some(value) = digit(source.look()) {
@@ -95,8 +95,8 @@ fn more_digits<S: Source>(source: &mut S, begun: u64) -> u64
 
 // Takes the digits in front, and answers their amount, if there are any.
 fn take_digits<S: Source>(source: &mut S) -> Option<u64>
-    ensures amount { MatchOption result (prefix_len is_digit (waiting source.old) ≡ 0) (λ n. (0 < prefix_len is_digit (waiting source.old)) × (n ≡ min (decimal (digits_of (waiting source.old))) 2147483649)) }
-    ensures rest { waiting source.new ≡ after_digits (waiting source.old) }
+    ensures amount { MatchOption result (prefix_len is_digit (S.waiting source.old) ≡ 0) (λ n. (0 < prefix_len is_digit (S.waiting source.old)) × (n ≡ min (decimal (digits_of (S.waiting source.old))) 2147483649)) }
+    ensures rest { S.waiting source.new ≡ after_digits (S.waiting source.old) }
 {
     let first = digit(source.look())?;
     let _ = source.take();
@@ -121,7 +121,7 @@ fn word(minus: bool, amount: u64) -> Option<i32>
 
 /// Reads an int: takes blanks, then a minus if one is next, then all digits; the next byte stays.
 pub fn read_int<S: Source>(source: &mut S) -> Result<i32, ReadFault>
-    ensures read { IntRead (waiting source.old) result (waiting source.new) }
+    ensures read { IntRead (S.waiting source.old) result (S.waiting source.new) }
     ensures examples { Examples }
 {
     skip_blanks(source);
@@ -137,7 +137,7 @@ pub fn read_int<S: Source>(source: &mut S) -> Result<i32, ReadFault>
 
 /// Reads a char: takes one byte.
 pub fn read_char<S: Source>(source: &mut S) -> Result<u8, ReadFault>
-    ensures { CharRead (waiting source.old) result (waiting source.new) }
+    ensures { CharRead (S.waiting source.old) result (S.waiting source.new) }
 {
     source.take().ok_or(ReadFault::NothingWaits)
 }

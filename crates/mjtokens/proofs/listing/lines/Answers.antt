@@ -5,10 +5,10 @@ use Rattle.std.proofs.lemmas.Result.{IfOk-weaker}
 use Rattle.lexer.proofs.Scans.{none_yet, token_ahead, one_more, reached, stopped}
 use Rattle.mjtokens.specs.Listing.{line, total, Listed, the_tokens, the_refusal}
 use Rattle.mjtokens.proofs.listing.lines.Goals as goal
-use Rattle.mjtokens.proofs.listing.lines.Goals.{In-default}
+use Rattle.mjtokens.proofs.listing.lines.Goals.{In_default}
 
-ahead : (c : In-default) → (c.tokens.at < c.in-Ok.token.place + c.in-Ok.token.len) × (c.in-Ok.token.place + c.in-Ok.token.len ≤ length c.args.recipe.now)
-ahead c = token_ahead c.args.recipe.now c.tokens.at c.in-Ok.token c.in-Ok.ensures c.in-default.not-End
+ahead : (c : In_default) → (c.tokens.at < c.in-Ok.token.place + c.in-Ok.token.len) × (c.in-Ok.token.place + c.in-Ok.token.len ≤ length c.args.recipe.now)
+ahead c = token_ahead c.args.recipe.now c.tokens.at c.in-Ok.token c.in-Ok.ensures c.in_default.not-End
 
 pub tokens-init : goal.tokens-init
 tokens-init c = ([], none_yet c.args.recipe.now, refl, c.new-out.ensures.items)
@@ -22,23 +22,23 @@ pub returns-in-End : goal.returns-in-End
 returns-in-End c =
     let sofar = c.tokens.invariant in
     let all = reached c.args.recipe.now c.tokens.at sofar.0 c.in-Ok.token c.requires sofar.1 c.in-Ok.ensures c.in-End.is in
-    subst (Listed c.args.recipe.now) (ap (λ bs. bs ++ total (length sofar.0)) (sym sofar.3) ∙ ap (λ n. vec_items c.tokens.out ++ total n) sofar.2 ∙ sym c.in-ok-write-total.ensures) (the_tokens all)
+    subst (Listed c.args.recipe.now) (ap (λ bs. bs ++ total (length sofar.0)) (sym sofar.3) ∙ ap (λ n. vec_items c.tokens.out ++ total n) sofar.2 ∙ sym c.in_ok-write_total.ensures) (the_tokens all)
 
-pub overflow-add-at : goal.overflow-add-at
-overflow-add-at c = omega (arith, ahead (goal.at.overflow-add-at c).In-default, c.requires)
+pub overflow_add-at : goal.overflow_add-at
+overflow_add-at c = omega (arith, ahead (goal.at.overflow_add-at c).In_default, c.requires)
 
-pub overflow-add-count : goal.overflow-add-count
-overflow-add-count c = omega (arith, c.tokens.invariant.1.few, c.tokens.invariant.1.within, c.tokens.invariant.2, c.requires)
+pub overflow_add-count : goal.overflow_add-count
+overflow_add-count c = omega (arith, c.tokens.invariant.1.few, c.tokens.invariant.1.within, c.tokens.invariant.2, c.requires)
 
 pub tokens-smaller : goal.tokens-smaller
-tokens-smaller c = omega (arith, ahead (goal.at.tokens-smaller c).In-default)
+tokens-smaller c = omega (arith, ahead (goal.at.tokens-smaller c).In_default)
 
 pub tokens-preserved : goal.tokens-preserved
 tokens-preserved c =
     let sofar = c.tokens.invariant in
     let token = c.in-Ok.token in (
       sofar.0 ++ token ∷ [],
-      one_more c.args.recipe.now c.tokens.at sofar.0 token sofar.1 c.in-Ok.ensures c.in-default.not-End,
+      one_more c.args.recipe.now c.tokens.at sofar.0 token sofar.1 c.in-Ok.ensures c.in_default.not-End,
       length_push sofar.0 token ∙ ap (λ n. n + 1) sofar.2,
-      c.in-ok-write-token.ensures ∙ ap (λ bs. bs ++ line c.args.recipe.now token) sofar.3 ∙ flat_map_more (line c.args.recipe.now) [] sofar.0 token,
+      c.in_ok-write_token.ensures ∙ ap (λ bs. bs ++ line c.args.recipe.now token) sofar.3 ∙ flat_map_more (line c.args.recipe.now) [] sofar.0 token,
     )

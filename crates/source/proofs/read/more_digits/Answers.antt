@@ -12,11 +12,11 @@ taken g c = digit_more (g.S.Source.waiting c.loop-value.source) c.in-Some.value 
 pub loop-value-init : goal.loop-value-init
 loop-value-init g c = (c.requires, refl, refl)
 
-pub overflow-mul-amount : goal.overflow-mul-amount
-overflow-mul-amount g c = omega (arith, c.loop-value.invariant.0)
+pub overflow_mul-amount : goal.overflow_mul-amount
+overflow_mul-amount g c = omega (arith, c.loop-value.invariant.0)
 
-pub overflow-add-amount : goal.overflow-add-amount
-overflow-add-amount g c = omega (arith, c.loop-value.invariant.0, (taken g (goal.at.overflow-add-amount g c).In-Some).small)
+pub overflow_add-amount : goal.overflow_add-amount
+overflow_add-amount g c = omega (arith, c.loop-value.invariant.0, (taken g (goal.at.overflow_add-amount g c).In-Some).small)
 
 pub loop-value-smaller : goal.loop-value-smaller
 loop-value-smaller g c = omega (arith, (taken g (goal.at.loop-value-smaller g c).In-Some).shorter, ap length c.take.ensures.rest)
@@ -39,7 +39,7 @@ loop-value-preserved g c =
 pub returns : goal.returns
 returns g c =
     let w = g.S.Source.waiting c.loop-value.source in
-    let none = none_left w (digit_done w (c.in-default.ensures ∙ ap digit_in c.look.ensures)) in
+    let none = none_left w (digit_done w (c.in_default.ensures ∙ ap digit_in c.look.ensures)) in
     let inv = c.loop-value.invariant in
     let end : c.loop-value.amount ≡ min c.loop-value.amount 2147483649 = omega (arith, inv.0) in
     record {

@@ -7,10 +7,10 @@ use Rattle.source.proofs.read.take_digits.Goals as goal
 pub returns : goal.returns
 returns g c =
     let w = g.S.Source.waiting c.args.source.now in
-    let v = c.in-ok-first.first in
-    let d = digit_more w v (sym c.in-ok-first.was ∙ c.digit.ensures ∙ ap digit_in c.look.ensures) in
+    let v = c.in_ok-first.first in
+    let d = digit_more w v (sym c.in_ok-first.was ∙ c.digit.ensures ∙ ap digit_in c.look.ensures) in
     let begun : 0 * 10 + v ≡ v = omega arith in
-    let more = c.more-digits.ensures in
+    let more = c.more_digits.ensures in
     record {
       amount = (
         d.some,

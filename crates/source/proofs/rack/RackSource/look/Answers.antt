@@ -9,5 +9,5 @@ returns-then-self c = let rack = c.args.self.now in sym (ap first (rack_end rack
 pub returns : goal.returns
 returns c =
     let rack = c.args.self.now in
-    let line = c.line-of-line.result in
-    rack_first rack.readings.now rack.place rack.taken c.if-self.false rack.inside line.bytes line.len c.line-of-line.ensures.text
+    let line = c.line_of-line.result in
+    rack_first rack.readings.now rack.place rack.taken c.if-self.false rack.inside line.bytes line.len c.line_of-line.ensures.text
