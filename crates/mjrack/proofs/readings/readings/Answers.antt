@@ -17,15 +17,15 @@ pub returns-in-None : goal.returns-in-None
 returns-in-None c =
     subst (λ n. Refused c.args.text.now (NotAReading (n + 1))) (sym (c.len.ensures ∙ c.loop-at.found.ok.0)) (no_reading c.loop-at.invariant.0 c.loop-at-test.true c.in-None.ensures.line)
 
-pub returns-in-err-push : goal.returns-in-err-push
-returns-in-err-push c =
+pub returns-in_err-push-in-Some : goal.returns-in_err-push-in-Some
+returns-in_err-push-in-Some c =
     let text = c.args.text.now in
-    let left = err_from_is_err_and c.from-residual.result c.from-residual.ensures.1 in
+    let left = err_from_is_err_and c.from_residual.result c.from_residual.ensures.1 in
     subst (λ r. MatchResult r (λ v. Sofar text (length text) (vec_items v)) (Refused text)) (sym left.1) (subst (Refused text) (sym left.2) no_memory)
 
 pub loop-at-preserved : goal.loop-at-preserved
 loop-at-preserved c =
-    let pushed = c.in-ok-push.ensures.items in
+    let pushed = c.in_ok-push-in-Some.ensures.items in
     let line = c.in-Some.line in
     let ahead = c.in-Some.ensures.ahead in (
       subst (Sofar c.args.text.now line.next) (sym pushed) (more c.loop-at.invariant.0 c.in-Some.ensures.line),

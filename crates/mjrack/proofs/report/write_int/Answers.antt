@@ -8,5 +8,5 @@ pub returns : goal.returns
 returns c =
     let size = ap (λ l. min (length l) 1048576) c.new-page.ensures.memory in
     let word = to_z w32 (of_z w32 c.args.int) in
-    let printed = c.as-slice.ensures ∙ word_printed word c.new-page.result c.print-word.new.page c.print-word.result c.new-page.ensures.empty size c.print-word.ensures.printed ∙ ap decimal (to_z-of_z w32 c.args.int c.ranges.int) in
+    let printed = c.as_slice.ensures ∙ word_printed word c.new-page.result c.print_word.new.page c.print_word.result c.new-page.ensures.empty size c.print_word.ensures.printed ∙ ap decimal (to_z-of_z w32 c.args.int c.ranges.int) in
     search rules

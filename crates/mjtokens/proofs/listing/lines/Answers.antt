@@ -22,7 +22,7 @@ pub returns-in-End : goal.returns-in-End
 returns-in-End c =
     let sofar = c.tokens.invariant in
     let all = reached c.args.recipe.now c.tokens.at sofar.0 c.in-Ok.token c.requires sofar.1 c.in-Ok.ensures c.in-End.is in
-    subst (Listed c.args.recipe.now) (ap (λ bs. bs ++ total (length sofar.0)) (sym sofar.3) ∙ ap (λ n. vec_items c.tokens.out ++ total n) sofar.2 ∙ sym c.in_ok-write_total.ensures) (the_tokens all)
+    subst (Listed c.args.recipe.now) (ap (λ bs. bs ++ total (length sofar.0)) (sym sofar.3) ∙ ap (λ n. vec_items c.tokens.out ++ total n) sofar.2 ∙ sym c.in_ok-write_total-in-Ok.ensures) (the_tokens all)
 
 pub overflow_add-at : goal.overflow_add-at
 overflow_add-at c = omega (arith, ahead (goal.at.overflow_add-at c).In_default, c.requires)
@@ -40,5 +40,5 @@ tokens-preserved c =
       sofar.0 ++ token ∷ [],
       one_more c.args.recipe.now c.tokens.at sofar.0 token sofar.1 c.in-Ok.ensures c.in_default.not-End,
       length_push sofar.0 token ∙ ap (λ n. n + 1) sofar.2,
-      c.in_ok-write_token.ensures ∙ ap (λ bs. bs ++ line c.args.recipe.now token) sofar.3 ∙ flat_map_more (line c.args.recipe.now) [] sofar.0 token,
+      c.in_ok-write_token-in-Ok.ensures ∙ ap (λ bs. bs ++ line c.args.recipe.now token) sofar.3 ∙ flat_map_more (line c.args.recipe.now) [] sofar.0 token,
     )
