@@ -1,6 +1,6 @@
 -- Quotients and remainders in a word of 32 bits. Assumes nothing.
 use Rattle.std.specs.Prelude.{◌≡◌, ℕ, zero, suc, ◌+◌, ◌/◌, ◌%◌, ◌^◌, ◌<◌, ◌≤◌, Bool, true, false, cond, ℤ, pos, negsuc, neg_ℤ, Some, None, FitsSigned, ◌==◌, int_div, int_rem}
-use Rattle.std.proofs.Common.{sym, ap, ◌∙◌, mod-eq_of_lt, div-le_self, arith, lt→ltb, of_z, to_z}
+use Rattle.std.proofs.Common.{sym, ap, mod-eq_of_lt, div-le_self, arith, lt→ltb, of_z, to_z}
 use Rattle.std.specs.Int.Signed.{mag, mag_rem}
 use Rattle.std.specs.Int.{int_wrap, w32}
 use Rattle.std.proofs.lemmas.Int.{int_wrap_fits}

@@ -85,8 +85,8 @@ mod tests {
         print_word(&mut page, 0, 3)?;
         print_word(&mut page, -70, 3)?;
         print_byte(&mut page, b'x', 2)?;
-        assert_eq!(rt; page.as_slice(), b"-2147483648  0-70 x");
-        assert_eq!(rt; &memory[19..], b".....");
+        assert_eq!(rt; page.as_slice(), b"-2147483648  0-70 x".as_slice());
+        assert_eq!(rt; &memory[19..], b".....".as_slice());
         Ok(())
     }
 
@@ -99,7 +99,7 @@ mod tests {
         assert_eq!(rt; print_word(&mut page, 1, 2_147_483_647), Err(Full));
         print_word(&mut page, 123, 3)?;
         assert_eq!(rt; print_byte(&mut page, b'b', 0), Err(Full));
-        assert_eq!(rt; page.as_slice(), b"a123");
+        assert_eq!(rt; page.as_slice(), b"a123".as_slice());
         Ok(())
     }
 }

@@ -1,5 +1,5 @@
 -- What stands at the front of some bytes: at most one gap or token, within the bytes.
-use Rattle.std.proofs.Common.{◌≡◌, ℕ, ◌+◌, ◌<◌, ◌≤◌, min, Bool, true, false, cond, ◌&&◌, ◌||◌, eqb, List, [], ◌∷◌, length, get_or, take, drop, codes, sym, refl, ap, ◌∙◌, subst, ⊎_elim, true≢false, arith, length-take, get_or-take}
+use Rattle.std.proofs.Common.{◌≡◌, ℕ, ◌<◌, ◌≤◌, Bool, true, false, cond, ◌&&◌, ◌||◌, eqb, List, [], ◌∷◌, length, get_or, take, codes, sym, refl, ap, ◌∙◌, ⊎_elim, true≢false, arith, length-take, get_or-take}
 use borrow.Author.Tests.{eqb-false}
 use Rattle.std.proofs.lemmas.List.{get_or_past}
 use Rattle.std.proofs.str.Laws.{order}
@@ -7,9 +7,9 @@ use Rattle.std.specs.List.{prefix_len}
 use Rattle.std.proofs.lemmas.List.Sums.{prefix_len-le-length}
 use Rattle.std.proofs.lemmas.Bool.Decides.{nat_tests}
 use Rattle.lexer.specs.Classes.{within, letter, digit, blank, sign_byte}
-use Rattle.lexer.specs.Runs.{word_byte, line_byte, decimal}
-use Rattle.lexer.specs.Spelling.{keyword_text, sign_text, Begins}
-use Rattle.lexer.specs.Tokens.{Gap, a_blank, a_comment, Escape, carriage_return, line_feed, Plain, Escaped, Lexeme, a_word, a_name, a_number, a_character, an_escape, a_sign, Bad, no_token, too_large}
+use Rattle.lexer.specs.Runs.{word_byte, decimal}
+use Rattle.lexer.specs.Spelling.{sign_text, Begins}
+use Rattle.lexer.specs.Tokens.{Gap, a_blank, a_comment, Escape, carriage_return, line_feed, Lexeme, a_word, a_name, a_number, a_character, an_escape, a_sign, Bad, no_token, too_large}
 use Rattle.lexer.specs.declared.token.Kind.{Kind}
 use Rattle.lexer.specs.declared.token.Kind.TheVariants.{End, Name, Number, Character, Word, Sign}
 use Rattle.lexer.specs.declared.token.Operator.{Operator}

@@ -1,11 +1,10 @@
 -- The worked examples.
-use Rattle.std.proofs.Common.{◌≡◌, ℕ, ◌<◌, ◌≤◌, true, false, List, [], ◌∷◌, length, codes, sym, refl, ap, true≢false, arith, lit<, lit≤, rules}
+use Rattle.std.proofs.Common.{◌≡◌, ℕ, ◌≤◌, List, [], ◌∷◌, length, codes, sym, refl, true≢false, arith, lit<, lit≤, rules}
 use Rattle.lexer.specs.Examples.{Examples}
 use Rattle.lexer.specs.Scan.{Refused, cannot_go_on}
 use Rattle.lexer.specs.Spelling.{keyword_text, sign_text, Begins}
-use Rattle.lexer.specs.Tokens.{Gap, a_blank, a_comment, Lexeme, a_word, a_name, a_number, a_character, a_sign, Bad, no_token, too_large, Cut, nothing, a_gap, a_token}
+use Rattle.lexer.specs.Tokens.{Gap, a_blank, a_comment, a_name, a_number, a_character, a_sign, Bad, no_token, too_large, nothing, a_token}
 use Rattle.lexer.specs.declared.token.Keyword.{Keyword}
-use Rattle.lexer.specs.declared.token.Keyword.TheVariants.{Program, Class, If, Else, While, Read, Print, Return, Break, Void, Final, New}
 use Rattle.lexer.specs.declared.token.Operator.{Operator}
 use Rattle.lexer.specs.declared.token.Operator.TheVariants.{Plus, PlusPlus, LessEqual}
 use Rattle.lexer.proofs.Fronts.{begins_at, begins_sign, sign_short}

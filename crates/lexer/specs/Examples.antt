@@ -1,5 +1,5 @@
 -- Worked examples: what some short texts are by the definitions.
-use Rattle.std.specs.Prelude.{ℕ, List, [], ◌∷◌, codes}
+use Rattle.std.specs.Prelude.{ℕ, [], ◌∷◌, codes}
 use Rattle.lexer.specs.Tokens.{Cut}
 use Rattle.lexer.specs.Scan.{Refused}
 use Rattle.lexer.specs.declared.token.Kind.{Kind}

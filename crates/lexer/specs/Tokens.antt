@@ -7,7 +7,7 @@ use Rattle.lexer.specs.Spelling.{keyword_text, sign_text, Begins}
 use Rattle.lexer.specs.declared.token.Keyword.{Keyword}
 use Rattle.lexer.specs.declared.token.Operator.{Operator}
 use Rattle.lexer.specs.declared.token.Kind.{Kind}
-use Rattle.lexer.specs.declared.token.Kind.TheVariants.{End, Name, Number, Character, Word, Sign}
+use Rattle.lexer.specs.declared.token.Kind.TheVariants.{Name, Number, Character, Word, Sign}
 use Rattle.lexer.specs.declared.token.Token.{Token}
 
 -- s begins with a blank or a comment, which takes n bytes and makes no token

@@ -149,7 +149,7 @@ mod tests {
                 len: 2,
             }
         );
-        assert!(rt; token.text(recipe) == b"x1");
+        assert!(rt; token.text(recipe) == b"x1".as_slice());
         assert_eq!(rt; next(recipe, 12)?.kind, Kind::End);
         Ok(())
     }

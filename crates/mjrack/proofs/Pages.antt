@@ -1,5 +1,5 @@
 -- A word fits a page of eleven bytes.
-use Rattle.std.proofs.Common.{◌≡◌, ℕ, zero, suc, ◌+◌, ◌-◌, ◌/◌, ◌%◌, ◌<◌, ◌≤◌, Bool, true, false, cond, ltb, List, [], ◌∷◌, ◌++◌, length, replicate, ℤ, pos, negsuc, Ok, Err, Result, sym, refl, ap, ◌∙◌, arith, length-append}
+use Rattle.std.proofs.Common.{◌≡◌, ℕ, zero, suc, ◌+◌, ◌-◌, ◌/◌, ◌%◌, ◌≤◌, Bool, true, false, cond, ltb, List, [], ◌∷◌, ◌++◌, length, replicate, ℤ, pos, negsuc, Ok, Err, Result, ap, ◌∙◌, arith, length-append}
 use Rattle.slicevec.specs.Held.{held, room}
 use Rattle.slicevec.specs.declared.Full.{Full}
 use Rattle.slicevec.specs.declared.SliceVec.{SliceVec}

@@ -1,5 +1,5 @@
 -- What the token lister prints of a recipe.
-use Rattle.std.specs.Prelude.{ℕ, ◌≤◌, List, [], ◌∷◌, ◌++◌, length, take, drop, codes, decimal}
+use Rattle.std.specs.Prelude.{ℕ, List, ◌++◌, length, take, drop, codes, decimal}
 use Rattle.std.specs.List.{flat_map}
 use Rattle.lexer.specs.Scan.{Accepted, Refused}
 use Rattle.lexer.specs.declared.Kind.{Kind}

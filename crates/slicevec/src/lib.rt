@@ -170,7 +170,7 @@ mod tests {
         ];
         assert_eq!(rt; pushed, [Ok(0), Ok(1), Err(Full)]);
         assert_eq!(rt; [steps.len(), steps.room_left()], [2, 0]);
-        assert_eq!(rt; steps.as_slice(), &[Step::Go(7), Step::Stay]);
+        assert_eq!(rt; steps.as_slice(), [Step::Go(7), Step::Stay].as_slice());
     }
 
     #[test]
@@ -200,6 +200,6 @@ mod tests {
         assert_eq!(rt; steps.len(), 2);
         steps.truncate(1);
         assert_eq!(rt; steps.push(Step::Go(3)), Ok(1));
-        assert_eq!(rt; steps.as_slice(), &[Step::Go(1), Step::Go(3)]);
+        assert_eq!(rt; steps.as_slice(), [Step::Go(1), Step::Go(3)].as_slice());
     }
 }

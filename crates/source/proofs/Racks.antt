@@ -1,10 +1,7 @@
 -- What waits in a rack: its first byte, what is behind it, and that they are bytes.
-use Rattle.std.proofs.Common.{◌≡◌, ℕ, ◌+◌, ◌/◌, ◌^◌, ◌<◌, ◌≤◌, Bool, true, false, cond, leb, List, [], ◌∷◌, ◌++◌, length, get_or, take, drop, Some, codes, IsAscii, decimal, sym, refl, ap, ◌∙◌, arith, length-append, length-take, get_or-take, drop-drop}
+use Rattle.std.proofs.Common.{◌≡◌, ℕ, ◌+◌, ◌<◌, ◌≤◌, List, [], ◌∷◌, ◌++◌, length, get_or, take, drop, Some, codes, sym, ap, ◌∙◌, arith, length-append, length-take, get_or-take, drop-drop}
 use lib.Seq.{drop-append-le}
-use Rattle.std.specs.List.{flat_map}
-use Rattle.std.proofs.lemmas.Fmt.{IsAscii-decimal}
 use Rattle.std.proofs.lemmas.List.{drop_more, drop_all}
-use Rattle.std.proofs.lemmas.Str.{IsAscii-append, IsAscii-drop}
 use Rattle.source.specs.Racks.{told, line, rack_text, in_rack}
 use Rattle.source.specs.Waiting.{first}
 

@@ -1,5 +1,5 @@
 -- An int is read, from what each step took.
-use Rattle.std.proofs.Common.{◌≡◌, ℕ, ◌<◌, ◌≤◌, min, Bool, true, false, cond, List, length, ℤ, Some, None, Ok, Err, Option, Result, sym, ap, ◌∙◌, subst, arith, MatchOption}
+use Rattle.std.proofs.Common.{◌≡◌, ℕ, ◌<◌, min, Bool, true, false, List, length, ℤ, Some, None, Ok, Err, Option, Result, sym, ap, ◌∙◌, subst, arith, MatchOption}
 use Rattle.std.specs.Option.{ok_or}
 use Rattle.std.specs.List.{prefix_len}
 use Rattle.lexer.specs.Classes.{digit}

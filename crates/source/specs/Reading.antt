@@ -1,5 +1,5 @@
 -- What is read from waiting bytes, and what is left of them.
-use Rattle.std.specs.Prelude.{◌≡◌, ℕ, ◌<◌, ◌≤◌, Bool, true, false, cond, List, [], ◌∷◌, length, take, drop, ℤ, pos, neg_ℤ, Ok, Err, Result, ◌==◌, slice_index}
+use Rattle.std.specs.Prelude.{◌≡◌, ℕ, ◌<◌, ◌≤◌, Bool, cond, List, [], ◌∷◌, length, take, drop, ℤ, pos, neg_ℤ, Ok, Err, Result, ◌==◌, slice_index}
 use Rattle.std.specs.List.{prefix_len}
 use Rattle.lexer.specs.Classes.{blank, digit}
 use Rattle.lexer.specs.Runs.{decimal}

@@ -1,4 +1,4 @@
-use Rattle.std.proofs.Common.{◌≡◌, ℕ, ◌<◌, List, length, sym, subst, arith, length-drop}
+use Rattle.std.proofs.Common.{ℕ, ◌<◌, length, sym, subst, arith, length-drop}
 use Rattle.std.proofs.lemmas.List.{take_rest}
 use Rattle.lexer.specs.Refusals.{number_of}
 use Rattle.lexer.specs.Scan.{then_token, then_end, then_bad}

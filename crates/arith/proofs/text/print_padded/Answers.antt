@@ -1,4 +1,4 @@
-use Rattle.std.proofs.Common.{length, sym, refl, ap, ◌∙◌, arith, length-append, length-take, rules}
+use Rattle.std.proofs.Common.{length, sym, refl, ap, ◌∙◌, arith, length-append, length-take}
 use lib.ListN.{length-replicate}
 use Rattle.std.proofs.lemmas.List.{append-nil}
 use Rattle.arith.specs.Decimal.{padded}

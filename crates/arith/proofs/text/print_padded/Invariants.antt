@@ -1,4 +1,4 @@
-use Rattle.std.proofs.Common.{◌≡◌, ◌+◌, ◌-◌, ◌++◌, length, take, replicate}
+use Rattle.std.proofs.Common.{◌≡◌, ◌-◌, ◌++◌, length, take, replicate}
 use Rattle.slicevec.specs.Held.{held, room}
 use Rattle.arith.proofs.text.print_padded.Given as goal
 

@@ -1,4 +1,4 @@
-use Rattle.std.proofs.Common.{◌≡◌, ◌+◌, ◌-◌, ◌%◌, ◌∷◌, drop, set, ap, ◌∙◌, arith, length-set, w32, rules}
+use Rattle.std.proofs.Common.{◌≡◌, ◌+◌, ◌-◌, ◌%◌, ◌∷◌, drop, set, ap, ◌∙◌, arith, length-set, w32}
 use Rattle.std.proofs.lemmas.List.{drop-set}
 use Rattle.std.proofs.lemmas.Int.{to_z-of_z}
 use Rattle.arith.specs.Decimal.{decimal}

@@ -1,6 +1,6 @@
-use Rattle.std.proofs.Common.{◌≡◌, ℕ, ◌+◌, ◌<◌, ◌≤◌, List, [], length, drop, subst, arith, length-drop}
+use Rattle.std.proofs.Common.{ℕ, ◌+◌, ◌<◌, ◌≤◌, length, drop, subst, arith, length-drop}
 use Rattle.std.proofs.lemmas.List.{take_rest}
-use Rattle.lexer.specs.Tokens.{Gap, Cut, nothing}
+use Rattle.lexer.specs.Tokens.{Gap, nothing}
 use Rattle.lexer.proofs.Fronts.{gap_within}
 use Rattle.lexer.proofs.Cuts.{gap_after, gap_inside}
 use Rattle.lexer.proofs.gap.skip_gaps.Goals as goal

@@ -1,4 +1,4 @@
-use Rattle.std.proofs.Common.{◌≡◌, length, sym, refl, ap, ◌∙◌, arith}
+use Rattle.std.proofs.Common.{length, refl, ap, ◌∙◌, arith}
 use Rattle.source.specs.Reading.{after_blanks}
 use Rattle.source.specs.Rules.{blank_in}
 use Rattle.source.proofs.Steps.{blank_more, blank_done}

@@ -24,5 +24,5 @@ trees-preserved c =
 pub returns-after-trees : goal.returns-after-trees
 returns-after-trees c = record { linked = all_linked _ _ _ _ _ _ c.trees-test.false c.trees.invariant.0; size = c.trees.invariant.1; lender = c.trees.invariant.2 }
 
-pub returns-in-default : goal.returns-in-default
-returns-in-default c = absurd (omega (arith, c.in-default.ensures, c.trees.invariant.0.within, c.trees-test.true))
+pub returns-in_default : goal.returns-in_default
+returns-in_default c = absurd (omega (arith, c.in-default.ensures, c.trees.invariant.0.within, c.trees-test.true))

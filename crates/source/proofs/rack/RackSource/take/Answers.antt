@@ -1,4 +1,4 @@
-use Rattle.std.proofs.Common.{◌+◌, List, get_or, drop, sym, ap, ◌∙◌}
+use Rattle.std.proofs.Common.{◌+◌, get_or, drop, sym, ap, ◌∙◌}
 use Rattle.source.specs.Waiting.{first}
 use Rattle.source.proofs.Racks.{line_some, rack_first, rack_next, rack_over, rack_end}
 use Rattle.source.proofs.rack.RackSource.take.Goals as goal

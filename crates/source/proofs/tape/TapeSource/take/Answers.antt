@@ -1,4 +1,4 @@
-use Rattle.std.proofs.Common.{◌≡◌, ℕ, ◌+◌, ◌-◌, ◌<◌, List, [], ◌∷◌, length, get_or, take, drop, Some, sym, refl, ap, ◌∙◌, subst, arith, get_or-drop, rules}
+use Rattle.std.proofs.Common.{◌≡◌, ℕ, ◌+◌, ◌<◌, List, [], ◌∷◌, length, get_or, Some, sym, refl, ap, ◌∙◌, subst, arith, get_or-drop, rules}
 use Rattle.std.proofs.lemmas.List.{take_rest}
 use Rattle.source.specs.Waiting.{first}
 use Rattle.source.proofs.tape.TapeSource.take.Goals as goal
