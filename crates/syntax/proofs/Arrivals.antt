@@ -12,7 +12,7 @@ use Rattle.syntax.specs.declared.grammar.Item.TheVariants.{Make, Token as one, U
 use Rattle.syntax.specs.declared.grammar.Rule.{Rule}
 use Rattle.syntax.specs.declared.grammar.Rule.TheVariants as R
 use Rattle.syntax.specs.Sorts.{alike, ahead}
-use Rattle.syntax.specs.Grammar.{left, right}
+use Rattle.syntax.specs.Grammar.{right}
 use Rattle.syntax.specs.Trees.{Forest}
 use Rattle.syntax.specs.Derivations as D
 use Rattle.syntax.specs.Derivations.{nested, marked, Frame, frame, Derives}

@@ -1,5 +1,5 @@
 -- One more node in the table.
-use Rattle.std.proofs.Common.{◌≡◌, ℕ, ◌+◌, ◌<◌, ◌≤◌, List, [], ◌∷◌, ◌++◌, length, None, Ok, Err, Option, Result, sym, refl, ap, ◌∙◌, append_assoc, arith, MatchResult}
+use Rattle.std.proofs.Common.{◌≡◌, ℕ, ◌+◌, ◌<◌, ◌≤◌, List, [], ◌∷◌, ◌++◌, length, None, Ok, Err, Option, Result, ap, ◌∙◌, append_assoc, arith, MatchResult}
 use Rattle.std.proofs.lemmas.List.{length-append, length_push}
 use Rattle.slicevec.specs.declared.SliceVec.{SliceVec}
 use Rattle.slicevec.specs.declared.Full.{Full}
@@ -9,10 +9,10 @@ use Rattle.syntax.specs.declared.node.Note.TheVariants.{Unjudged}
 use Rattle.syntax.specs.declared.node.Own.{Own}
 use Rattle.syntax.specs.declared.node.Use.{Use}
 use Rattle.syntax.specs.declared.node.Use.TheVariants.{Value}
-use Rattle.syntax.specs.Laying.{Linked, Holds, Laid}
-use Rattle.syntax.specs.Table.{first_use, first_root, entries, parts, loose}
-use Rattle.syntax.specs.Trees.{Forest, node, sizes}
-use Rattle.syntax.proofs.Sizes.{length_entries, length_parts, length_loose}
+use Rattle.syntax.specs.Laying.{Linked, Laid}
+use Rattle.syntax.specs.Table.{first_use, entries, parts, loose}
+use Rattle.syntax.specs.Trees.{Forest, node}
+use Rattle.syntax.proofs.Sizes.{length_entries, length_loose}
 
 -- a node over trees is one entry more
 one_more : (front : List Node) (start : ℕ) (own : Own) (f : Forest) → length (front ++ entries start None Value (node own.kind own.place f)) ≡ length (front ++ loose start f) + 1

@@ -3,6 +3,7 @@ pub mod Predictions
 pub mod Sizes
 pub mod Links
 pub mod Lays
+pub mod Taking
 pub mod Paths
 pub mod Bounds
 pub mod Sides

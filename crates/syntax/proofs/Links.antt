@@ -1,5 +1,5 @@
 -- Loose trees become the parts of one node, from the last to the first.
-use Rattle.std.proofs.Common.{◌≡◌, ℕ, ◌+◌, ◌-◌, ◌<◌, ◌≤◌, min, Bool, true, false, cond, leb, List, [], ◌∷◌, ◌++◌, length, get_or, set, Some, None, Option, sym, refl, ap, ◌∙◌, subst, append_assoc, arith}
+use Rattle.std.proofs.Common.{◌≡◌, ℕ, ◌+◌, ◌-◌, ◌<◌, ◌≤◌, min, Bool, cond, leb, List, [], ◌∷◌, ◌++◌, length, get_or, set, Some, None, Option, sym, refl, ap, ◌∙◌, subst, append_assoc, arith}
 use Rattle.std.proofs.lemmas.List.{append-nil, length-append, length-set, get_or_at, set_at}
 use Rattle.std.proofs.lemmas.Bool.{le-leb, lt-leb}
 use Rattle.syntax.specs.declared.node.Node.{Node}
@@ -7,8 +7,8 @@ use Rattle.syntax.specs.declared.node.Note.TheVariants.{Unjudged}
 use Rattle.syntax.specs.declared.node.Use.{Use}
 use Rattle.syntax.specs.declared.node.Use.TheVariants.{Value}
 use Rattle.syntax.specs.Laying.{Linked}
-use Rattle.syntax.specs.Table.{first_use, root, first_root, use_behind, entries, parts, loose}
-use Rattle.syntax.specs.Trees.{Tree, node, Forest, bare, grown, size, sizes}
+use Rattle.syntax.specs.Table.{first_use, first_root, use_behind, parts, loose}
+use Rattle.syntax.specs.Trees.{node, Forest, bare, grown, size, sizes}
 use Rattle.syntax.proofs.Sizes.{length_loose, length_parts, some_node}
 
 -- some trees are still loose, the entries up to end; the others have their links

@@ -18,7 +18,7 @@ use Rattle.syntax.specs.declared.grammar.Item.TheVariants.{Make, Token as one, U
 use Rattle.syntax.specs.declared.grammar.Rule.{Rule}
 use Rattle.syntax.specs.Sorts.{alike, ahead}
 use Rattle.syntax.specs.Grammar.{left, right, tail}
-use Rattle.syntax.specs.Trees.{Tree, node, Forest, bare, grown, join}
+use Rattle.syntax.specs.Trees.{node, Forest, bare, grown, join}
 
 -- the nest of an item: its depth, and whether it stands in a while
 abbrev pub nested : Level → Nest → Nest

@@ -7,7 +7,7 @@ use Rattle.syntax.specs.declared.node.Own.{Own}
 use Rattle.syntax.specs.declared.node.Use.{Use}
 use Rattle.syntax.specs.declared.node.Use.TheVariants.{Value}
 use Rattle.syntax.specs.Table.{first_root, parts, loose, entries}
-use Rattle.syntax.specs.Trees.{Forest, node, sizes}
+use Rattle.syntax.specs.Trees.{Forest, node}
 
 -- loose trees behind a front become the parts of one node
 pub record Linked (old new : List Node) (start : ℕ) (used : Use) (first : Option ℕ) : Type 0 where

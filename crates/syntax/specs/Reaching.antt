@@ -1,5 +1,5 @@
 -- How far a parser has come that always goes on by the rule that the next token asks for. Only inner contracts speak of this.
-use Rattle.std.specs.Prelude.{◌≡◌, ℕ, ◌<◌, ◌≤◌, true, false, List, [], ◌∷◌, Some, None, Option}
+use Rattle.std.specs.Prelude.{◌≡◌, ◌<◌, ◌≤◌, true, false, List, [], ◌∷◌, Some, None, Option}
 use Rattle.lexer.specs.declared.Kind.{Kind}
 use Rattle.lexer.specs.declared.Token.{Token}
 use Rattle.syntax.specs.declared.node.Own.{Own}

@@ -23,7 +23,7 @@ use Rattle.syntax.specs.Parsing.{place_of}
 use Rattle.syntax.specs.Reaching.{Reach, Blocked}
 use Rattle.syntax.specs.Sorts.{alike, ahead}
 use Rattle.syntax.specs.Table.{loose}
-use Rattle.syntax.specs.Trees.{Forest, bare, sizes}
+use Rattle.syntax.specs.Trees.{Forest, sizes}
 
 -- the token t is the next of these, which the text has from there on
 pub data Next (text : List ℕ) (t : Token) : List Token → Type 0 where

@@ -1,12 +1,12 @@
 -- How trees stand in the node table: children first.
-use Rattle.std.specs.Prelude.{ℕ, ◌+◌, ◌-◌, List, [], ◌∷◌, ◌++◌, Some, None, Option}
+use Rattle.std.specs.Prelude.{ℕ, ◌+◌, List, [], ◌∷◌, ◌++◌, Some, None, Option}
 use Rattle.syntax.specs.declared.node.NodeKind.{NodeKind}
 use Rattle.syntax.specs.declared.node.NodeKind.TheVariants as N
 use Rattle.syntax.specs.declared.node.Use.{Use}
 use Rattle.syntax.specs.declared.node.Use.TheVariants.{Value, Stored, Called}
 use Rattle.syntax.specs.declared.node.Note.TheVariants.{Unjudged}
 use Rattle.syntax.specs.declared.node.Node.{Node}
-use Rattle.syntax.specs.Trees.{Tree, node, Forest, bare, grown, size, sizes}
+use Rattle.syntax.specs.Trees.{Tree, node, Forest, bare, grown, sizes}
 
 -- how a node uses its first part: a store stores into it, a call calls it
 abbrev pub first_use : NodeKind → Use

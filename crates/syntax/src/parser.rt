@@ -1,7 +1,8 @@
 // The parser: it goes through the rules as the tokens ask, and makes the nodes on the way.
-ghost use Rattle.std.specs.Prelude.{◌≡◌, ◌+◌, ◌≤◌, None};
+ghost use Rattle.std.specs.Prelude.{◌≡◌, ◌+◌, ◌<◌, ◌≤◌, None};
 ghost use Rattle.slicevec.specs.Held.{room};
 ghost use Rattle.syntax.specs.Derivations.{nested, informed, marked as marked_by};
+ghost use Rattle.syntax.specs.Sorts.{sort};
 ghost use Rattle.syntax.specs.States.{Taken, Running, Stepped, Ran, Went, Room, ShownBy};
 
 use crate::grammar::{Item, Level, Part, Role, Rule, alike, predict};
@@ -101,8 +102,9 @@ pub struct Parser<'t> {
 }
 
 impl<'t> Parser<'t> {
-    // Takes the next token, which must be of this kind, at this depth.
+    // Takes the next token, which must be of this kind, at this depth. No token has the kind of the end.
     fn take(&mut self, kind: Kind, depth: usize) -> Result<Token, Refusal>
+        requires { 0 < sort kind }
         ensures taken { Taken self.old self.new kind depth result }
         ensures text { self.new.text.now ≡ self.old.text.now }
         ensures made { self.new.made ≡ self.old.made }

@@ -1,6 +1,6 @@
 use Rattle.std.proofs.Common.{◌≡◌, sym, refl, ap, ◌∙◌, subst, arith}
 use Rattle.std.proofs.lemmas.Bool.{le-leb, lt-leb}
-use Rattle.slicevec.specs.Held.{held, room}
+use Rattle.slicevec.specs.Held.{held}
 use Rattle.syntax.proofs.Links.{Linking, all_loose, one_linked, all_linked, tied, relinked}
 use Rattle.syntax.proofs.table.link.Goals as goal
 use Rattle.syntax.proofs.table.link.Goals.{then-node-start, else-node-start}
@@ -25,4 +25,4 @@ pub returns-after-trees : goal.returns-after-trees
 returns-after-trees c = record { linked = all_linked _ _ _ _ _ _ c.trees-test.false c.trees.invariant.0; size = c.trees.invariant.1; lender = c.trees.invariant.2 }
 
 pub returns-in_default : goal.returns-in_default
-returns-in_default c = absurd (omega (arith, c.in-default.ensures, c.trees.invariant.0.within, c.trees-test.true))
+returns-in_default c = absurd (omega (arith, c.in_default.ensures, c.trees.invariant.0.within, c.trees-test.true))
