@@ -5,7 +5,7 @@ usage: python3 tools/respell.py [--dry]     at the top of the repository, after 
 
 A name of ours is one that a signature in specs/ or proofs/ declares, or that an import gives by `as`.
 Types, records of facts and modules keep their capital; names that the check makes (goals, given facts) and
-names of other libraries stay. It stops where two names would fall together.
+names of other libraries stay. It tells where a new name stands already.
 """
 import os
 import re
