@@ -1,3 +1,2 @@
-pub mod Pages
-pub mod Spelling
+pub mod Decimal
 pub mod Worked

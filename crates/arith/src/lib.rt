@@ -25,16 +25,12 @@ pub enum Operation {
 
 impl Operation {
     /// Whether the operation divides by zero, which no arithmetic answers.
+    #[tactic(auto, using(crate::proofs::Worked::worked))]
     pub fn divides_by_zero(self) -> bool
         ensures value { result ≡ by_zero self }
         ensures examples { Examples }
     {
-        match self {
-            Operation::Div(_, b) => b == 0,
-            Operation::Rem(_, b) => b == 0,
-            Operation::Add(..) | Operation::Sub(..) | Operation::Mul(..) | Operation::Neg(_) =>
-                false,
-        }
+        matches!(self, Operation::Div(_, 0) | Operation::Rem(_, 0))
     }
 }
 

@@ -1,34 +1,34 @@
 // The decimal text of a word, printed at the end of a page: a page is the bytes that are printed so far.
-ghost use Rattle.std.specs.Prelude.{◌≡◌, ◌≤◌, [], ◌∷◌, drop};
-ghost use Rattle.arith.specs.Decimal.{decimal, padded};
-ghost use Rattle.arith.specs.Printed.{Printed};
+ghost use Rattle.std.specs.Prelude.{◌≡◌, [], ◌∷◌};
+ghost use Rattle.std.specs.Fmt.{signed_decimal};
+ghost use Rattle.arith.specs.Printed.{Printed, padded};
 
+use itoa::Buffer;
 use slicevec::{Full, SliceVec};
 
 /// Prints the decimal text of `value` at the end of `page`, with blanks in front up to `width`.
 /// Where there is no room for all of it, nothing is printed.
 pub fn print_word(page: &mut SliceVec<'_, u8>, value: i32, width: u32) -> Result<(), Full>
-    ensures printed { Printed (padded width (decimal value)) page.old page.new result }
-    ensures lender { page.new.entries.ghost_name ≡ page.old.entries.ghost_name }
+    ensures { Printed (padded width (signed_decimal value)) page.old page.new result }
 {
-    let numeral = spell(value);
-    print_padded(page, &numeral.bytes[numeral.start..], width)
+    let mut buffer = Buffer::new();
+    print_padded(page, buffer.format(value).as_bytes(), width)
 }
 
 /// Prints one byte at the end of `page`, with blanks in front up to `width`.
 /// Where there is no room for all of it, nothing is printed.
 pub fn print_byte(page: &mut SliceVec<'_, u8>, byte: u8, width: u32) -> Result<(), Full>
-    ensures printed { Printed (padded width (byte ∷ [])) page.old page.new result }
-    ensures lender { page.new.entries.ghost_name ≡ page.old.entries.ghost_name }
+    ensures { Printed (padded width (byte ∷ [])) page.old page.new result }
 {
     print_padded(page, &[byte], width)
 }
 
 // Prints `text` with blanks in front up to `width`, or nothing where there is no room for all of it.
+// Page and width are two parameters, as in the public calls above.
 fn print_padded(page: &mut SliceVec<'_, u8>, text: &[u8], width: u32) -> Result<(), Full>
-    ensures printed { Printed (padded width text.now) page.old page.new result }
-    ensures lender { page.new.entries.ghost_name ≡ page.old.entries.ghost_name }
+    ensures { Printed (padded width text.now) page.old page.new result }
 {
+    // No `usize::from(width)`: a `u32` need not fit every `usize`.
     let length = text.len().max(width as usize);
     if page.room_left() < length {
         return Err(Full);
@@ -40,36 +40,6 @@ fn print_padded(page: &mut SliceVec<'_, u8>, text: &[u8], width: u32) -> Result<
         page.push(*byte)?;
     }
     Ok(())
-}
-
-// A decimal text, which ends where `bytes` ends.
-#[derive(Clone, Copy)]
-struct Numeral {
-    bytes: [u8; 11],
-    start: usize,
-}
-
-// The decimal text of a word: a minus and ten digits at most.
-fn spell(value: i32) -> Numeral
-    ensures text { drop result.start result.bytes ≡ decimal value }
-    ensures within { result.start ≤ 11 }
-{
-    let mut bytes = [0; 11];
-    let mut start = 10;
-    let mut rest = value.unsigned_abs();
-    loop {
-        bytes[start] = b'0' + (rest % 10) as u8;
-        rest /= 10;
-        if rest == 0 {
-            break;
-        }
-        start -= 1;
-    }
-    if value < 0 {
-        start -= 1;
-        bytes[start] = b'-';
-    }
-    Numeral { bytes, start }
 }
 
 #[cfg(test)]

@@ -9,6 +9,7 @@ use table::{Row, TABLE};
 
 // Whether each answer of the row is that of the arithmetic.
 fn agrees(row: &Row) -> bool {
+    // An array and no struct: the table's rows are what the Java program prints.
     let [a, b, sum, difference, product, quotient, remainder, negated] = *row;
     let divided = Java.compute(Operation::Div(a, b));
     let left_over = Java.compute(Operation::Rem(a, b));
@@ -25,11 +26,6 @@ fn agrees(row: &Row) -> bool {
 }
 
 fn main(rt: HostRuntime) -> io::Result<()> {
-    let mut pairs: usize = 0;
-    for row in &TABLE {
-        if agrees(row) {
-            pairs += 1;
-        }
-    }
+    let pairs = TABLE.iter().filter(|row| agrees(row)).count();
     println!(rt; "{pairs} pairs agree")
 }

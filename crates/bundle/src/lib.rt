@@ -1,36 +1,14 @@
 // A bundle: what a program is given in one piece, a recipe and then, behind a line `%%`, the input of its run.
 #![tactic(auto)]
 
-ghost use Rattle.std.specs.Prelude.{◌≡◌, ◌<◌, length, ◌==◌, slice_index};
-ghost use Rattle.bundle.specs.Marks.{line_begins, line_ends, mark_at, Divided};
+ghost use Rattle.std.specs.Prelude.{◌≡◌, ◌<◌, length};
+ghost use Rattle.bundle.specs.Marks.{mark_at, Divided};
 
 /// The two parts of a bundle.
-#[derive(Clone, Copy)]
+#[derive(Clone, Copy, Debug, PartialEq, Eq)]
 pub struct Bundle<'a> {
     pub recipe: &'a [u8],
     pub input: &'a [u8],
-}
-
-/// Whether this byte, which is not 0, stands at `at`.
-fn stands(bytes: &[u8], at: usize, byte: u8) -> bool
-    requires { 0 < byte }
-    ensures { result ≡ (slice_index bytes.now at == byte) }
-{
-    at < bytes.len() && bytes[at] == byte
-}
-
-/// Whether a line begins at `at`.
-fn line_begins(bytes: &[u8], at: usize) -> bool
-    ensures { result ≡ line_begins bytes.now at }
-{
-    at == 0 || stands(bytes, at - 1, b'\n')
-}
-
-/// Whether a line or all bytes end at `at`.
-fn line_ends(bytes: &[u8], at: usize) -> bool
-    ensures { result ≡ line_ends bytes.now at }
-{
-    at == bytes.len() || stands(bytes, at, b'\n')
 }
 
 /// Whether the line that begins at `at` is `%%`.
@@ -38,28 +16,23 @@ fn is_mark(bytes: &[u8], at: usize) -> bool
     requires { at < length bytes.now }
     ensures { result ≡ mark_at bytes.now at }
 {
-    line_begins(bytes, at)
-        && stands(bytes, at, b'%')
-        && stands(bytes, at + 1, b'%')
-        && line_ends(bytes, at + 2)
+    let line_begins = at == 0 || bytes[at - 1] == b'\n';
+    line_begins && matches!(&bytes[at..], [b'%', b'%'] | [b'%', b'%', b'\n', ..])
 }
 
 /// The recipe and its input: what stands before and behind the first line `%%`.
 pub fn divide(bytes: &[u8]) -> Bundle<'_>
     ensures { Divided bytes.now result.recipe.now result.input.now }
 {
-    for at in 0..bytes.len() {
-        if is_mark(bytes, at) {
-            let past = bytes.len().min(at + 3);
-            return Bundle {
-                recipe: &bytes[0..at],
-                input: &bytes[past..],
-            };
-        }
-    }
-    Bundle {
-        recipe: bytes,
-        input: &[],
+    match (0..bytes.len()).find(|&at| is_mark(bytes, at)) {
+        None => Bundle {
+            recipe: bytes,
+            input: &[],
+        },
+        Some(at) => Bundle {
+            recipe: &bytes[..at],
+            input: &bytes[(at + 3).min(bytes.len())..],
+        },
     }
 }
 

@@ -1,19 +1,18 @@
 -- What stands at the front of some bytes: at most one gap or token, within the bytes.
-use Rattle.std.proofs.Common.{◌≡◌, ℕ, ◌<◌, ◌≤◌, Bool, true, false, cond, ◌&&◌, ◌||◌, eqb, List, [], ◌∷◌, length, get_or, take, codes, sym, refl, ap, ◌∙◌, ⊎_elim, true≢false, arith, length-take, get_or-take}
+use Rattle.std.proofs.Common.{◌≡◌, ℕ, ◌<◌, ◌≤◌, Bool, true, false, cond, ◌||◌, eqb, List, [], ◌∷◌, length, get_or, take, codes, sym, refl, ap, ◌∙◌, ⊎_elim, true≢false, arith, rules, length-take, get_or-take}
 use borrow.Author.Tests.{eqb-false}
 use Rattle.std.proofs.lemmas.List.{get_or_past}
 use Rattle.std.proofs.str.Laws.{order}
 use Rattle.std.specs.List.{prefix_len}
 use Rattle.std.proofs.lemmas.List.Sums.{prefix_len-le-length}
 use Rattle.std.proofs.lemmas.Bool.Decides.{nat_tests}
-use Rattle.lexer.specs.Classes.{within, letter, digit, blank, sign_byte}
+use Rattle.lexer.specs.Classes.{letter, digit, blank, sign_byte}
 use Rattle.lexer.specs.Runs.{word_byte, decimal}
 use Rattle.lexer.specs.Spelling.{sign_text, Begins}
 use Rattle.lexer.specs.Tokens.{Gap, a_blank, a_comment, Escape, carriage_return, line_feed, Lexeme, a_word, a_name, a_number, a_character, an_escape, a_sign, Bad, no_token, too_large}
 use Rattle.lexer.specs.declared.token.Kind.{Kind}
-use Rattle.lexer.specs.declared.token.Kind.TheVariants.{End, Name, Number, Character, Word, Sign}
+use Rattle.lexer.specs.declared.token.Kind.TheVariants.{End, Character, Word, Sign}
 use Rattle.lexer.specs.declared.token.Operator.{Operator}
-use Rattle.lexer.specs.declared.token.Operator.TheVariants.{Plus, Minus, Star, Slash, Percent, PlusPlus, MinusMinus, EqualEqual, NotEqual, Greater, GreaterEqual, Less, LessEqual, AndAnd, OrOr, OpenParen, CloseParen, OpenBracket, CloseBracket, OpenBrace, CloseBrace, Assign, Semicolon, Comma, Dot}
 use Rattle.lexer.proofs.Distinct.{same_keyword, same_sign}
 
 -- a text is at least as long as what it begins with, and has its bytes
@@ -37,47 +36,17 @@ pub is_blank : (b : ℕ) → blank b ≡ true → sort b ≡ 5
 is_blank b e = grind (arith, nat_tests)
 
 -- every sign has one or two bytes, and its first byte is no other token's
-abbrev sign_shape : Operator → Bool
-sign_shape g = eqb (sort (get_or (sign_text g) 0 0)) 4 && sign_byte (get_or (sign_text g) 0 0) && within 1 2 (length (sign_text g))
-
-sign_shaped : (g : Operator) → sign_shape g ≡ true
-sign_shaped Plus = refl
-sign_shaped Minus = refl
-sign_shaped Star = refl
-sign_shaped Slash = refl
-sign_shaped Percent = refl
-sign_shaped PlusPlus = refl
-sign_shaped MinusMinus = refl
-sign_shaped EqualEqual = refl
-sign_shaped NotEqual = refl
-sign_shaped Greater = refl
-sign_shaped GreaterEqual = refl
-sign_shaped Less = refl
-sign_shaped LessEqual = refl
-sign_shaped AndAnd = refl
-sign_shaped OrOr = refl
-sign_shaped OpenParen = refl
-sign_shaped CloseParen = refl
-sign_shaped OpenBracket = refl
-sign_shaped CloseBracket = refl
-sign_shaped OpenBrace = refl
-sign_shaped CloseBrace = refl
-sign_shaped Assign = refl
-sign_shaped Semicolon = refl
-sign_shaped Comma = refl
-sign_shaped Dot = refl
-
 sign_first : (g : Operator) → sign_byte (get_or (sign_text g) 0 0) ≡ true
-sign_first g = let h = sign_shaped g in grind (arith, nat_tests)
+sign_first g = search rules
 
 pub sign_sort : (g : Operator) → sort (get_or (sign_text g) 0 0) ≡ 4
-sign_sort g = let h = sign_shaped g in grind (arith, nat_tests)
+sign_sort g = search rules
 
 pub sign_some : (g : Operator) → 0 < length (sign_text g)
-sign_some g = let h = sign_shaped g in grind (arith, nat_tests)
+sign_some g = search rules
 
 pub sign_short : (g : Operator) → length (sign_text g) ≤ 2
-sign_short g = let h = sign_shaped g in grind (arith, nat_tests)
+sign_short g = search rules
 
 -- each rule of a token by its first byte
 abbrev rule : {s : List ℕ} {k : Kind} {n : ℕ} → Lexeme s k n → ℕ
@@ -247,21 +216,10 @@ bad_no_lexeme {s} {r} {n} {k} (no_token h g none d) x = none k n x
 bad_no_lexeme {s} (too_large d l) x = omega (arith, lexeme_number s x d)
 
 -- no token is of the kind of the end
-abbrev is_end : Kind → Bool
-is_end End = true
-is_end Name = false
-is_end (Number _) = false
-is_end (Character _) = false
-is_end (Word _) = false
-is_end (Sign _) = false
-
-lexeme_goes_on : {s : List ℕ} {k : Kind} {n : ℕ} → Lexeme s k n → is_end k ≡ false
-lexeme_goes_on (a_word k h e) = refl
-lexeme_goes_on (a_name h e) = refl
-lexeme_goes_on (a_number h e) = refl
-lexeme_goes_on (a_character p) = refl
-lexeme_goes_on (an_escape p) = refl
-lexeme_goes_on (a_sign g b l n) = refl
-
 pub lexeme_no_end : {s : List ℕ} {k : Kind} {n : ℕ} → Lexeme s k n → k ≡ End → ⊥
-lexeme_no_end x e = true≢false (sym (ap is_end e) ∙ lexeme_goes_on x)
+lexeme_no_end (a_word k h e) end = search rules
+lexeme_no_end (a_name h e) end = search rules
+lexeme_no_end (a_number h e) end = search rules
+lexeme_no_end (a_character p) end = search rules
+lexeme_no_end (an_escape p) end = search rules
+lexeme_no_end (a_sign g b l n) end = search rules

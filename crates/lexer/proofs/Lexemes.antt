@@ -1,74 +1,52 @@
 -- Where each kind of token stands, and where none does.
-use Rattle.std.proofs.Common.{◌≡◌, ℕ, zero, suc, ◌+◌, ◌-◌, ◌<◌, ◌≤◌, Bool, true, false, cond, ◌||◌, List, [], ◌∷◌, length, get_or, take, Some, None, codes, Option, Result, sym, refl, ap, ◌∙◌, subst, true≢false, arith, length-take, get_or-take}
-use Rattle.std.specs.Option as Options
+use Rattle.std.proofs.Common.{◌≡◌, ℕ, ◌<◌, ◌≤◌, true, false, ◌||◌, List, length, get_or, take, Some, None, codes, Option, MatchOption, Result, MatchResult, sym, refl, ap, ◌∙◌, ◌⊎◌, subst, true≢false, arith, length-take, get_or-take}
 use Rattle.std.specs.Option.{ok_or}
-use Rattle.std.specs.Result as Results
 use Rattle.std.specs.List.{prefix_len}
 use Rattle.std.proofs.lemmas.Bool.Decides.{nat_tests}
+use Rattle.std.proofs.lemmas.List.Sums.{prefix_len_passes}
+use Rattle.lexer.specs.Finds.{Finds}
 use Rattle.lexer.specs.Classes.{letter, digit, sign_byte, class_of}
 use Rattle.lexer.specs.Runs.{word_byte, decimal}
-use Rattle.lexer.specs.Spelling.{keyword_text, sign_text, Begins}
-use Rattle.lexer.specs.Tokens.{Gap, Escape, carriage_return, line_feed, Plain, Escaped, Lexeme, a_word, a_name, a_number, a_character, an_escape, a_sign, Bad, no_token, too_large}
+use Rattle.lexer.specs.Spelling.{keyword_text, sign_text, Begins, Longest}
+use Rattle.lexer.specs.Tokens.{Gap, Escape, Plain, Escaped, Lexeme, a_word, a_name, a_number, a_character, an_escape, a_sign, Bad, no_token, too_large}
 use Rattle.lexer.specs.declared.token.Keyword.{Keyword}
 use Rattle.lexer.specs.Refusals.{number_of}
-use Rattle.lexer.specs.declared.class.Class.TheVariants as Class
+use Rattle.lexer.specs.declared.class.Class.{Class}
+use Rattle.lexer.specs.declared.class.Class.TheVariants as Classes
 use Rattle.lexer.specs.declared.class.Class.TheVariants.{Underscore, Blank, Other}
 use Rattle.lexer.specs.declared.front.Front.{Front}
 use Rattle.lexer.specs.declared.refusal.Reason.{Reason}
-use Rattle.lexer.specs.declared.refusal.Reason.TheVariants.{NoToken}
+use Rattle.lexer.specs.declared.refusal.Reason.TheVariants.{NoToken, NumberTooLarge}
 use Rattle.lexer.specs.declared.token.Kind.{Kind}
-use Rattle.lexer.specs.declared.token.Kind.TheVariants.{Name, Number, Word, Sign}
+use Rattle.lexer.specs.declared.token.Kind.TheVariants.{Name, Number, Character, Word, Sign}
 use Rattle.lexer.specs.declared.token.Operator.{Operator}
 use Rattle.lexer.proofs.Fronts.{lexeme_first}
 
--- some number is below one that is 0 unless the test passes
-passes : (v : Bool) (i n : ℕ) → i < cond v n 0 → (v ≡ true) × (i < n)
-passes true i n h = (refl, h)
-passes false i n h = absurd (omega arith)
-
--- each byte of a longest run passes
-leading_all : (p : ℕ → Bool) (s : List ℕ) (i : ℕ) → i < prefix_len p s → p (get_or s i 0) ≡ true
-leading_all p [] i h = absurd (omega arith)
-leading_all p (b ∷ s) zero h = (passes (p b) 0 (1 + prefix_len p s) h).0
-leading_all p (b ∷ s) (suc i) h = leading_all p s i (omega (arith, (passes (p b) (suc i) (1 + prefix_len p s) h).1))
-
 module _ (s : List ℕ) (n : ℕ) where
-  same_part : (p : ℕ → Bool) → n ≡ prefix_len p s → take (n - 0) s ≡ take (prefix_len p s) s
-  same_part p run = let e : n - 0 ≡ prefix_len p s = omega arith in ap (λ m. take m s) e
-
-  pub run_digits : n ≡ prefix_len digit s → (i : ℕ) → i < length (take (n - 0) s) → digit (get_or (take (n - 0) s) i 0) ≡ true
+  -- each byte of a longest run of digits is one
+  pub run_digits : n ≡ prefix_len digit s → (i : ℕ) → i < length (take n s) → digit (get_or (take n s) i 0) ≡ true
   run_digits run i h =
-      let short : i < prefix_len digit s = omega (arith, length-take (n - 0) s) in
-      ap digit (get_or-take (n - 0) s i 0 (omega arith)) ∙ leading_all digit s i short
+      let short : i < prefix_len digit s = omega (arith, length-take n s) in
+      ap digit (get_or-take n s i 0 (omega arith)) ∙ prefix_len_passes digit s i 0 short
 
-  pub number_here : (v : ℕ) → digit (get_or s 0 0) ≡ true → n ≡ prefix_len digit s → v ≡ decimal (take (n - 0) s) → v ≤ 2147483647 → Lexeme s (Number v) n
-  number_here v first run value small =
-      let e = value ∙ ap decimal (same_part digit run) in
-      subst (Lexeme s (Number v)) (sym run) (subst (λ w. Lexeme s (Number w) (prefix_len digit s)) (sym e) (a_number first (subst (λ w. w ≤ 2147483647) e small)))
+  -- a run of digits is a number, or too large
+  pub number_here : (found : Option ℕ) (front : Option Front) (r : Result Front Reason) → digit (get_or s 0 0) ≡ true → n ≡ prefix_len digit s → MatchOption found (2147483647 < decimal (take n s)) (λ v. (v ≡ decimal (take n s)) × (v ≤ 2147483647)) → MatchOption found (front ≡ None) (λ v. front ≡ Some (record { kind = Number v; len = n })) → r ≡ ok_or front NumberTooLarge → MatchResult r (λ f. Lexeme s f.kind f.len) (λ e. Bad s (number_of e))
+  number_here None front r first run large none e = rw (e, none) (too_large first (rw (sym run) large))
+  number_here (Some v) front r first run told some e = rw (e, some, told.0, run) (a_number first (rw (sym run, sym told.0) told.1))
 
-  pub number_too_large : digit (get_or s 0 0) ≡ true → n ≡ prefix_len digit s → 2147483647 < decimal (take (n - 0) s) → Bad s 4
-  number_too_large first run large = too_large first (subst (λ w. 2147483647 < w) (ap decimal (same_part digit run)) large)
+  -- a word is the keyword that is spelled so, or a name
+  pub word_here : (found : Option Keyword) (kind : Kind) → letter (get_or s 0 0) ≡ true → n ≡ prefix_len word_byte s → Finds found (λ k. take n s ≡ keyword_text k) → MatchOption found (kind ≡ Name) (λ k. kind ≡ Word k) → Lexeme s kind n
+  word_here None kind first run none e = rw (e, run) (a_name first (rw (sym run) none))
+  word_here (Some k) kind first run spelled e = rw (e, run) (a_word k first (rw (sym run) spelled))
 
-  pub word_here : (k : Keyword) → letter (get_or s 0 0) ≡ true → n ≡ prefix_len word_byte s → take (n - 0) s ≡ keyword_text k → Lexeme s (Word k) n
-  word_here k first run spelled = subst (Lexeme s (Word k)) (sym run) (a_word k first (sym (same_part word_byte run) ∙ spelled))
+-- a letter after a backslash, or none that may stand there
+pub escaped_here : (s : List ℕ) (letter : Option ℕ) (front : Option Front) → get_or s 0 0 ≡ 39 → get_or s 1 0 ≡ 92 → get_or s 3 0 ≡ 39 → Finds letter (Escape (get_or s 2 0)) → MatchOption letter (front ≡ None) (λ c. front ≡ Some (record { kind = Character c; len = 4 })) → MatchOption front ((c : ℕ) → Escaped s c → ⊥) (λ f. Lexeme s f.kind f.len)
+escaped_here s None front opens backslash closes none e = rw e (λ c escaped. none c escaped.escape)
+escaped_here s (Some c) front opens backslash closes escape e = rw e (an_escape (record { opens = opens; backslash = backslash; escape = escape; closes = closes }))
 
-  pub name_here : letter (get_or s 0 0) ≡ true → n ≡ prefix_len word_byte s → ((k : Keyword) → take (n - 0) s ≡ keyword_text k → ⊥) → Lexeme s Name n
-  name_here first run none = subst (Lexeme s Name) (sym run) (a_name first (λ k e. none k (same_part word_byte run ∙ e)))
-
--- the letters after a backslash
-pub escape_r : (b : ℕ) → b ≡ 114 → Escape b 13
-escape_r b e = subst (λ x. Escape x 13) (sym e) carriage_return
-
-pub escape_n : (b : ℕ) → b ≡ 110 → Escape b 10
-escape_n b e = subst (λ x. Escape x 10) (sym e) line_feed
-
-pub no_escape : {b c : ℕ} → (b ≡ 114 → ⊥) → (b ≡ 110 → ⊥) → Escape b c → ⊥
-no_escape r n carriage_return = r refl
-no_escape r n line_feed = n refl
-
--- a sign, as long as it is spelled
-pub sign_here : (s : List ℕ) (g : Operator) (n : ℕ) → n ≡ length (sign_text g) → Begins (sign_text g) s → ((h : Operator) → Begins (sign_text h) s → length (sign_text h) ≤ length (sign_text g)) → (Begins (codes "//") s → ⊥) → Lexeme s (Sign g) n
-sign_here s g n long here longest apart = subst (Lexeme s (Sign g)) (sym long) (a_sign g here longest apart)
+-- the bytes that are neither letters nor digits nor bytes of a sign
+unmarked : (b : ℕ) (class : Class) → class ≡ class_of b → (class ≡ Underscore) ⊎ ((class ≡ Blank) ⊎ (class ≡ Other)) → letter b || digit b || sign_byte b ≡ false
+unmarked b class is other = grind (arith, nat_tests)
 
 -- a byte of a sign begins no word and no number
 pub no_marked : (s : List ℕ) → ((g : Operator) → Begins (sign_text g) s → ⊥) → ((c : ℕ) → Plain s c → ⊥) → ((c : ℕ) → Escaped s c → ⊥) → (k : Kind) (n : ℕ) → Lexeme s k n → sign_byte (get_or s 0 0) ≡ true → ⊥
@@ -79,25 +57,29 @@ no_marked s signs plain escaped _ _ (a_character {c} p) first = plain c p
 no_marked s signs plain escaped _ _ (an_escape {c} p) first = escaped c p
 no_marked s signs plain escaped _ _ (a_sign g b l n) first = signs g b
 
+-- a sign, or else a character constant in its first form
+pub signed_here : (s : List ℕ) (sign : Option Operator) (front r : Option Front) → (Begins (codes "//") s → ⊥) → MatchOption sign ((g : Operator) → Begins (sign_text g) s → ⊥) (Longest s) → MatchOption sign (front ≡ None) (λ g. front ≡ Some (record { kind = Sign g; len = length (sign_text g) })) → (front ≡ None → MatchOption r ((c : ℕ) → Plain s c → ⊥) (λ f. Lexeme s f.kind f.len)) → ((f : Front) → front ≡ Some f → r ≡ Some f) → MatchOption r (((g : Operator) → Begins (sign_text g) s → ⊥) × ((c : ℕ) → Plain s c → ⊥)) (λ f. Lexeme s f.kind f.len)
+signed_here s None front None apart signs none other same = (signs, other none)
+signed_here s None front (Some f) apart signs none other same = other none
+signed_here s (Some g) front r apart told some other same = rw (same _ some) (a_sign g told.0 told.1 apart)
+
+-- or else one in its second form, or else nothing that a byte of a sign begins
+pub marked_here : (s : List ℕ) (front r : Option Front) → MatchOption front (((g : Operator) → Begins (sign_text g) s → ⊥) × ((c : ℕ) → Plain s c → ⊥)) (λ f. Lexeme s f.kind f.len) → (front ≡ None → MatchOption r ((c : ℕ) → Escaped s c → ⊥) (λ f. Lexeme s f.kind f.len)) → ((f : Front) → front ≡ Some f → r ≡ Some f) → MatchOption r ((k : Kind) (n : ℕ) → Lexeme s k n → sign_byte (get_or s 0 0) ≡ true → ⊥) (λ f. Lexeme s f.kind f.len)
+marked_here s None None none other same = no_marked s none.0 none.1 (other refl)
+marked_here s None (Some f) none other same = other refl
+marked_here s (Some f) r told other same = rw (same f refl) told
+
 module _ (s : List ℕ) (some : 0 < length s) (here : (n : ℕ) → Gap s n → ⊥) where
-  sign_bad : class_of (get_or s 0 0) ≡ Class.Sign → ((k : Kind) (n : ℕ) → Lexeme s k n → sign_byte (get_or s 0 0) ≡ true → ⊥) → Bad s 3
+  sign_bad : class_of (get_or s 0 0) ≡ Classes.Sign → ((k : Kind) (n : ℕ) → Lexeme s k n → sign_byte (get_or s 0 0) ≡ true → ⊥) → Bad s 3
   sign_bad class none = no_token some here (λ k n x. none k n x (grind (arith, nat_tests))) (grind (arith, nat_tests))
 
   -- a byte of a sign begins what is found, or nothing
-  pub or_bad : class_of (get_or s 0 0) ≡ Class.Sign → (found : Option Front) (r : Result Front Reason) → r ≡ ok_or found NoToken → Options.MatchOption found ((k : Kind) (n : ℕ) → Lexeme s k n → sign_byte (get_or s 0 0) ≡ true → ⊥) (λ f. Lexeme s f.kind f.len) → Results.MatchResult r (λ f. Lexeme s f.kind f.len) (λ e. Bad s (number_of e))
-  or_bad class None r e h = subst (λ x. Results.MatchResult x (λ f. Lexeme s f.kind f.len) (λ y. Bad s (number_of y))) (sym e) (sign_bad class h)
-  or_bad class (Some f) r e h = subst (λ x. Results.MatchResult x (λ g. Lexeme s g.kind g.len) (λ y. Bad s (number_of y))) (sym e) h
+  pub or_bad : class_of (get_or s 0 0) ≡ Classes.Sign → (found : Option Front) (r : Result Front Reason) → r ≡ ok_or found NoToken → MatchOption found ((k : Kind) (n : ℕ) → Lexeme s k n → sign_byte (get_or s 0 0) ≡ true → ⊥) (λ f. Lexeme s f.kind f.len) → MatchResult r (λ f. Lexeme s f.kind f.len) (λ e. Bad s (number_of e))
+  or_bad class None r e h = subst (λ x. MatchResult x (λ f. Lexeme s f.kind f.len) (λ y. Bad s (number_of y))) (sym e) (sign_bad class h)
+  or_bad class (Some f) r e h = subst (λ x. MatchResult x (λ g. Lexeme s g.kind g.len) (λ y. Bad s (number_of y))) (sym e) h
 
   -- no token begins with any other byte
-  pub other_bad : letter (get_or s 0 0) || digit (get_or s 0 0) || sign_byte (get_or s 0 0) ≡ false → Bad s 3
-  other_bad other = no_token some here (λ k n x. true≢false (sym (lexeme_first x) ∙ other)) (grind (arith, nat_tests))
-
--- the classes of such bytes
-pub underscore_other : (b : ℕ) → class_of b ≡ Underscore → letter b || digit b || sign_byte b ≡ false
-underscore_other b e = grind (arith, nat_tests)
-
-pub blank_other : (b : ℕ) → class_of b ≡ Blank → letter b || digit b || sign_byte b ≡ false
-blank_other b e = grind (arith, nat_tests)
-
-pub rest_other : (b : ℕ) → class_of b ≡ Other → letter b || digit b || sign_byte b ≡ false
-rest_other b e = grind (arith, nat_tests)
+  pub other_bad : (class : Class) → class ≡ class_of (get_or s 0 0) → (class ≡ Underscore) ⊎ ((class ≡ Blank) ⊎ (class ≡ Other)) → Bad s 3
+  other_bad class is other =
+      let none = unmarked (get_or s 0 0) class is other in
+      no_token some here (λ k n x. true≢false (sym (lexeme_first x) ∙ none)) (grind (arith, nat_tests))

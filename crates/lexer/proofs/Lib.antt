@@ -1,4 +1,3 @@
-pub mod Spelled
 pub mod Numbers
 pub mod Distinct
 pub mod Fronts
@@ -6,4 +5,5 @@ pub mod Gaps
 pub mod Cuts
 pub mod Lexemes
 pub mod Scans
+pub mod Streams
 pub mod Worked

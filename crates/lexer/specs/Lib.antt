@@ -1,7 +1,10 @@
+pub mod Finds
 pub mod Classes
 pub mod Spelling
 pub mod Runs
 pub mod Refusals
 pub mod Tokens
+pub mod Front
 pub mod Scan
+pub mod Stream
 pub mod Examples

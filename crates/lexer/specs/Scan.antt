@@ -2,6 +2,7 @@
 use Rattle.std.specs.Prelude.{◌≡◌, ℕ, ◌<◌, ◌≤◌, List, [], length, drop, Ok, Err, Result}
 use Rattle.lexer.specs.Refusals.{number_of}
 use Rattle.lexer.specs.Tokens.{Lexeme, Bad, Cut}
+use Rattle.lexer.specs.declared.refusal.Reason.{Reason}
 use Rattle.lexer.specs.declared.refusal.Refusal.{Refusal}
 use Rattle.lexer.specs.declared.token.Kind.{Kind}
 use Rattle.lexer.specs.declared.token.Kind.TheVariants.{End}
@@ -19,7 +20,7 @@ pub data NoNext (text : List ℕ) (at : ℕ) : ℕ → ℕ → Type 0 where
   then_bad : {p number : ℕ} → Cut text at p [] → Bad (drop p text) number → NoNext text at number p
 
 -- the answer of one step
-abbrev pub Stepped : List ℕ → ℕ → Result Token Refusal → Type 0
+abbrev pub Stepped : List ℕ → ℕ → Result Token (Refusal Reason) → Type 0
 Stepped text at (Ok token) = Next text at token
 Stepped text at (Err e) = NoNext text at (number_of e.reason) e.place
 
@@ -37,6 +38,6 @@ pub data Refused (text : List ℕ) : ℕ → ℕ → Type 0 where
   cannot_go_on : {number p : ℕ} {ts : List Token} → length text ≤ 65536 → Cut text 0 p ts → Bad (drop p text) number → ((us : List Token) → Cut text 0 (length text) us → ⊥) → Refused text number p
 
 -- the answer to a whole text: how many tokens it is, or the refusal
-abbrev pub Scanned : List ℕ → Result ℕ Refusal → Type 0
+abbrev pub Scanned : List ℕ → Result ℕ (Refusal Reason) → Type 0
 Scanned text (Ok n) = (tokens : List Token) × Accepted text tokens × (length tokens ≡ n)
 Scanned text (Err e) = Refused text (number_of e.reason) e.place

@@ -1,5 +1,5 @@
 -- How the keywords and the signs are spelled.
-use Rattle.std.specs.Prelude.{◌≡◌, ℕ, List, length, take, codes}
+use Rattle.std.specs.Prelude.{◌≡◌, ℕ, ◌≤◌, List, length, take, codes}
 use Rattle.lexer.specs.declared.token.Keyword.{Keyword}
 use Rattle.lexer.specs.declared.token.Keyword.TheVariants.{Program, Class, If, Else, While, Read, Print, Return, Break, Void, Final, New}
 use Rattle.lexer.specs.declared.token.Operator.{Operator}
@@ -51,3 +51,7 @@ sign_text Dot = codes "."
 -- s begins with the bytes of t
 abbrev pub Begins : List ℕ → List ℕ → Type 0
 Begins t s = take (length t) s ≡ t
+
+-- s begins with this sign and with no longer one
+abbrev pub Longest : List ℕ → Operator → Type 0
+Longest s g = Begins (sign_text g) s × ((h : Operator) → Begins (sign_text h) s → length (sign_text h) ≤ length (sign_text g))

@@ -1,5 +1,5 @@
 -- What a text means as tokens: a token is the longest that can stand at its place.
-use Rattle.std.specs.Prelude.{◌≡◌, ℕ, ◌+◌, ◌<◌, ◌≤◌, min, true, false, List, [], ◌∷◌, length, take, drop, codes, ◌≢◌, slice_index, slice_index_or}
+use Rattle.std.specs.Prelude.{◌≡◌, ℕ, ◌+◌, ◌<◌, ◌≤◌, min, true, false, List, [], ◌∷◌, length, take, drop, codes, ◌≢◌, slice_index}
 use Rattle.std.specs.List.{prefix_len}
 use Rattle.lexer.specs.Classes.{within, letter, digit, blank}
 use Rattle.lexer.specs.Runs.{word_byte, line_byte, decimal}
@@ -26,17 +26,17 @@ pub data Escape : ℕ → ℕ → Type 0 where
 
 -- the first form of a character constant: a quote, the byte, one from 32 to 126, and a quote
 pub record Plain (s : List ℕ) (c : ℕ) : Type 0 where
-  pub opens : slice_index_or s 0 0 ≡ 39
-  pub byte : slice_index_or s 1 0 ≡ c
+  pub opens : slice_index s 0 ≡ 39
+  pub byte : slice_index s 1 ≡ c
   pub shown : within 32 126 c ≡ true
-  pub closes : slice_index_or s 2 0 ≡ 39
+  pub closes : slice_index s 2 ≡ 39
 
 -- the second form: a quote, a backslash, a letter that may stand after it, and a quote
 pub record Escaped (s : List ℕ) (c : ℕ) : Type 0 where
-  pub opens : slice_index_or s 0 0 ≡ 39
-  pub backslash : slice_index_or s 1 0 ≡ 92
+  pub opens : slice_index s 0 ≡ 39
+  pub backslash : slice_index s 1 ≡ 92
   pub escape : Escape (slice_index s 2) c
-  pub closes : slice_index_or s 3 0 ≡ 39
+  pub closes : slice_index s 3 ≡ 39
 
 -- s begins with a token of this kind that takes n bytes
 pub data Lexeme (s : List ℕ) : Kind → ℕ → Type 0 where

@@ -62,5 +62,5 @@ static CLASSES: [Class; 256] = [
 pub fn class_of(byte: u8) -> Class
     ensures { result ≡ class_of byte }
 {
-    CLASSES[byte as usize]
+    CLASSES[usize::from(byte)]
 }

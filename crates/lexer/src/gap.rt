@@ -1,20 +1,21 @@
 // Blanks and comments.
 ghost use Rattle.std.specs.Prelude.{ℕ, [], drop, codes, MatchOption};
+ghost use Rattle.lexer.specs.Finds.{Finds};
 ghost use Rattle.lexer.specs.Spelling.{Begins};
 ghost use Rattle.lexer.specs.Tokens.{Gap, Cut};
 
 use crate::class::{Class, class_of};
-use crate::run::Run;
+use crate::run::run_len;
 
 /// How many bytes the comment takes that `s` begins with.
 fn comment_len(s: &[u8]) -> Option<usize>
-    ensures { MatchOption result (Begins (codes "//") s.now → ⊥) (λ n. Gap s.now n) }
+    ensures { MatchOption result (Begins (codes "//") s.now → ⊥) (Gap s.now) }
 {
     match s {
         [b'/', b'/', rest @ ..] => {
-            let line = Run::Line.len_in(rest);
+            let line = run_len(rest, |byte| byte != b'\n');
             // The line feed that ends the comment is a part of it.
-            Some(if line < rest.len() { line + 3 } else { s.len() })
+            Some(s.len().min(line + 3))
         }
         _ => None,
     }
@@ -22,7 +23,7 @@ fn comment_len(s: &[u8]) -> Option<usize>
 
 /// How many bytes the blank or the comment takes that `s` begins with.
 fn gap_len(s: &[u8]) -> Option<usize>
-    ensures { MatchOption result ((n : ℕ) → Gap s.now n → ⊥) (λ n. Gap s.now n) }
+    ensures { Finds result (Gap s.now) }
 {
     let [byte, ..] = s else {
         return None;
@@ -33,17 +34,22 @@ fn gap_len(s: &[u8]) -> Option<usize>
     }
 }
 
+/// How many bytes the blank or the comment takes that stands at this place.
+fn gap_at(text: &[u8], place: usize) -> Option<usize>
+    ensures { Finds result (Gap (drop place text.now)) }
+{
+    gap_len(text.get(place..)?)
+}
+
 /// The first place from `at` on where neither a blank nor a comment stands.
 pub(crate) fn skip_gaps(text: &[u8], at: usize) -> usize
     ensures skipped { Cut text.now at result [] }
     ensures stops { (n : ℕ) → Gap (drop result text.now) n → ⊥ }
 {
+    // The text and a place stay apart, as callers of `next` give them: a struct for both is no plainer here.
     let mut place = at;
-    while place < text.len() {
-        match gap_len(&text[place..]) {
-            Some(n) => place += n,
-            None => break,
-        }
+    while let Some(n) = gap_at(text, place) {
+        place += n;
     }
     place
 }

@@ -14,13 +14,15 @@ mod refusal;
 mod run;
 mod sign;
 mod token;
+mod tokens;
 mod word;
 
 pub use class::{Class, class_of};
 use front::token_at_front;
 use gap::skip_gaps;
-pub use refusal::{Reason, Refusal};
+pub use refusal::{Numbered, Reason, Refusal};
 pub use token::{Keyword, Kind, Operator, Token};
+pub use tokens::Tokens;
 
 /// A recipe has at most so many bytes.
 pub const MAX_TEXT: usize = 65_536;
@@ -37,14 +39,13 @@ pub fn next(text: &[u8], at: usize) -> Result<Token, Refusal>
             len: 0,
         });
     }
-    match token_at_front(&text[place..]) {
-        Ok(front) => Ok(Token {
+    token_at_front(&text[place..])
+        .map(|front| Token {
             kind: front.kind,
             place,
             len: front.len,
-        }),
-        Err(reason) => Err(Refusal { reason, place }),
-    }
+        })
+        .map_err(|reason| Refusal { reason, place })
 }
 
 /// How many tokens a text has, or why and where it has none.
@@ -58,16 +59,13 @@ pub fn scan(text: &[u8]) -> Result<usize, Refusal>
             place: 0,
         });
     }
-    let mut at = 0;
     let mut count = 0;
-    loop {
-        let token = next(text, at)?;
-        if let Kind::End = token.kind {
-            return Ok(count);
-        }
-        at = token.place + token.len;
+    // A loop with `?`: a `try_fold` would be no plainer.
+    for token in Tokens::new(text) {
+        token?;
         count += 1;
     }
+    Ok(count)
 }
 
 #[cfg(test)]
@@ -75,50 +73,47 @@ mod tests {
     use super::*;
     use std::test::Fail;
 
-    // A text, the number of its refusal or 0, and the refusal's place or the count of tokens.
-    static TEXTS: [(&'static [u8], u8, usize); 32] = [
-        (b"", 0, 0),
-        (b" \t\r\n", 0, 0),
-        (b"program", 0, 1),
-        (b"programs", 0, 1),
-        (b"a_1", 0, 1),
-        (b"_a", 3, 0),
-        (b"a _", 3, 2),
-        (b"12ab", 0, 2),
-        (b"0002147483647", 0, 1),
-        (b"2147483648", 4, 0),
-        (b"1 99999999999999999999", 4, 2),
-        (b"'a'", 0, 1),
-        (b"'''", 0, 1),
-        (b"'\\'", 0, 1),
-        (b"'\\n'", 0, 1),
-        (b"'\\r'", 0, 1),
-        (b"'\\t'", 3, 0),
-        (b"'\\''", 3, 3),
-        (b"''", 3, 0),
-        (b"'ab'", 3, 0),
-        (b"'", 3, 0),
-        (b"'\t'", 3, 0),
-        (b"<==", 0, 2),
-        (b"a+++b", 0, 4),
-        (b"!", 3, 0),
-        (b"a & b", 3, 2),
-        (b"a | b", 3, 2),
-        (b"a // b @", 0, 1),
-        (b"a // b\n@", 3, 7),
-        (b"a //\xff\nb", 0, 2),
-        (b"/**/", 0, 4),
-        (b"99999999999 @", 4, 0),
+    // A text, and the count of its tokens or the number and the place of its refusal.
+    static TEXTS: [(&'static [u8], Result<usize, (u8, usize)>); 32] = [
+        (b"", Ok(0)),
+        (b" \t\r\n", Ok(0)),
+        (b"program", Ok(1)),
+        (b"programs", Ok(1)),
+        (b"a_1", Ok(1)),
+        (b"_a", Err((3, 0))),
+        (b"a _", Err((3, 2))),
+        (b"12ab", Ok(2)),
+        (b"0002147483647", Ok(1)),
+        (b"2147483648", Err((4, 0))),
+        (b"1 99999999999999999999", Err((4, 2))),
+        (b"'a'", Ok(1)),
+        (b"'''", Ok(1)),
+        (b"'\\'", Ok(1)),
+        (b"'\\n'", Ok(1)),
+        (b"'\\r'", Ok(1)),
+        (b"'\\t'", Err((3, 0))),
+        (b"'\\''", Err((3, 3))),
+        (b"''", Err((3, 0))),
+        (b"'ab'", Err((3, 0))),
+        (b"'", Err((3, 0))),
+        (b"'\t'", Err((3, 0))),
+        (b"<==", Ok(2)),
+        (b"a+++b", Ok(4)),
+        (b"!", Err((3, 0))),
+        (b"a & b", Err((3, 2))),
+        (b"a | b", Err((3, 2))),
+        (b"a // b @", Ok(1)),
+        (b"a // b\n@", Err((3, 7))),
+        (b"a //\xff\nb", Ok(2)),
+        (b"/**/", Ok(4)),
+        (b"99999999999 @", Err((4, 0))),
     ];
 
     #[test]
     fn texts(rt: HostRuntime) {
-        for (text, number, place) in TEXTS {
-            let found = match scan(text) {
-                Ok(count) => (0, count),
-                Err(refusal) => (refusal.reason.number(), refusal.place),
-            };
-            assert_eq!(rt; found, (number, place));
+        for (text, expected) in TEXTS {
+            let found = scan(text).map_err(|refusal| (refusal.reason.number(), refusal.place));
+            assert_eq!(rt; found, expected);
         }
     }
 
@@ -134,6 +129,38 @@ mod tests {
                 place: 0,
             })
         );
+        Ok(())
+    }
+
+    #[test]
+    fn stream(rt: HostRuntime) {
+        let mut tokens = Tokens::new(b" a _ b");
+        assert_eq!(rt;
+            tokens.next(),
+            Some(Ok(Token {
+                kind: Kind::Name,
+                place: 1,
+                len: 1,
+            }))
+        );
+        assert_eq!(rt;
+            tokens.next(),
+            Some(Err(Refusal {
+                reason: Reason::NoToken,
+                place: 3,
+            }))
+        );
+        assert_eq!(rt; tokens.next(), None);
+    }
+
+    #[test]
+    fn refusals_print(rt: HostRuntime) -> Result<(), Fail> {
+        let refusal = Refusal {
+            reason: Reason::NoToken,
+            place: 5,
+        };
+        let text = format!(in rt.alloc(); "{refusal}")?;
+        assert!(rt; text.as_str() == "refused 3 at 5");
         Ok(())
     }
 

@@ -53,6 +53,7 @@ pub enum Operator {
 #[derive(Clone, Copy, Debug, PartialEq)]
 pub enum Kind {
     /// No token: the text has ended.
+    // Kept, since `next` tells the place of the end, which an `Option` of a token would lose; `Tokens` ends by `None`.
     End,
     Name,
     /// A number, by its value.
@@ -97,6 +98,6 @@ impl Token {
     {
         let from = self.place.min(recipe.len());
         let rest = &recipe[from..];
-        &rest[0..self.len.min(rest.len())]
+        &rest[..self.len.min(rest.len())]
     }
 }

@@ -1,13 +1,14 @@
 // Which words are keywords.
-ghost use Rattle.std.specs.Prelude.{◌≡◌, MatchOption, ◌≢◌};
-ghost use Rattle.lexer.specs.declared.token.Keyword.{Keyword as AnyKeyword};
+ghost use Rattle.std.specs.Prelude.{◌≡◌};
+ghost use Rattle.lexer.specs.Finds.{Finds};
 ghost use Rattle.lexer.specs.Spelling.{keyword_text};
 
 use crate::token::Keyword;
 
 /// The keyword that is spelled so, if one is.
+// An `Option` and no `TryFrom`: a word that is no keyword is a name, and no error; so the signs.
 pub(crate) fn keyword(word: &[u8]) -> Option<Keyword>
-    ensures { MatchOption result ((k : AnyKeyword) → word.now ≢ keyword_text k) (λ k. word.now ≡ keyword_text k) }
+    ensures { Finds result (λ k. word.now ≡ keyword_text k) }
 {
     match word {
         b"program" => Some(Keyword::Program),

@@ -1,22 +1,11 @@
--- What waits in a rack, one byte or one int on.
-use Rattle.std.proofs.Common.{◌≡◌, ℕ, ◌+◌, ◌<◌, ◌≤◌, cond, List, [], ◌∷◌, ◌++◌, length, drop, ℤ, Some, None, Ok, sym, ap, ◌∙◌, append_assoc, append-nil, arith, length-drop}
+-- What waits in a source, one int on.
+use Rattle.std.proofs.Common.{ℕ, ◌+◌, ◌<◌, ◌≤◌, cond, List, length, ℤ, Ok, arith, length-drop}
 use Rattle.std.specs.List.{prefix_len}
 use Rattle.std.proofs.lemmas.List.{length_push}
 use Rattle.std.proofs.lemmas.List.Sums.{prefix_len-le-length, count_by-le-length}
 use Rattle.lexer.specs.Classes.{digit, blank}
 use Rattle.source.specs.Reading.{after_blanks, after_minus, minus_next, IntRead, a_word}
-use Rattle.source.specs.Waiting.{first}
 use Rattle.mjrack.specs.Report.{is_dead, dead_of, ReadSofar, untouched, one_more}
-
--- a byte is taken: what was taken before and what waits are together the same text
-pub byte_more : (bytes w text : List ℕ) (b : ℕ) → bytes ++ w ≡ text → Some b ≡ first w → ((bytes ++ b ∷ []) ++ drop 1 w ≡ text) × (length (drop 1 w) < length w)
-byte_more bytes [] text b h e = absurd (grind arith)
-byte_more bytes (x ∷ w) text b h e = let same : b ≡ x = grind arith in (append_assoc bytes (b ∷ []) w ∙ ap (λ y. bytes ++ y ∷ w) same ∙ h, omega arith)
-
--- no byte is left: the whole text is taken
-pub byte_done : (bytes w text : List ℕ) → bytes ++ w ≡ text → None ≡ first w → bytes ≡ text
-byte_done bytes [] text h e = sym (append-nil bytes) ∙ h
-byte_done bytes (x ∷ w) text h e = absurd (grind arith)
 
 -- an int takes a byte or more
 pub int_shorter : {w left : List ℕ} {z : ℤ} → IntRead w (Ok z) left → length left < length w

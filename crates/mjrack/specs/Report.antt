@@ -1,7 +1,7 @@
 -- What is printed of readings: what a rack tells of them, and what is read back from it.
 use Rattle.std.specs.Prelude.{ℕ, Bool, List, [], ◌∷◌, ◌++◌, length, ℤ, pos, negsuc, ◌+ℤ◌, Ok, Err, codes, decimal, fold, count_by}
+use Rattle.std.specs.Fmt.{signed_decimal}
 use Rattle.std.specs.Int.{int_wrap, w32}
-use Rattle.arith.specs.Decimal.{decimal as word_text}
 use Rattle.arith.specs.Words.{same}
 use Rattle.source.specs.Racks.{rack_text}
 use Rattle.source.specs.Reading.{IntRead}
@@ -37,7 +37,7 @@ dead_of zs = count_by is_dead zs
 
 -- the last line: how many readings, and the sum of the ints read back and how many of them are -1
 abbrev pub last_line : ℕ → ℤ → ℕ → List ℕ
-last_line many sum dead = codes "readings " ++ (decimal many ++ (codes ", sum " ++ (word_text sum ++ (codes ", dead " ++ (decimal dead ++ codes "\n")))))
+last_line many sum dead = codes "readings " ++ (decimal many ++ (codes ", sum " ++ (signed_decimal sum ++ (codes ", dead " ++ (decimal dead ++ codes "\n")))))
 
 -- what is printed of readings
 pub data Reported (readings : List ℕ) : List ℕ → Type 0 where

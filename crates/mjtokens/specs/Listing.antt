@@ -1,6 +1,7 @@
 -- What the token lister prints of a recipe.
 use Rattle.std.specs.Prelude.{ℕ, List, ◌++◌, length, take, drop, codes, decimal}
 use Rattle.std.specs.List.{flat_map}
+use Rattle.lexer.specs.Refusals.{refused_text}
 use Rattle.lexer.specs.Scan.{Accepted, Refused}
 use Rattle.lexer.specs.declared.Kind.{Kind}
 use Rattle.lexer.specs.declared.Kind.TheVariants.{End, Name, Number, Character, Word, Sign}
@@ -25,7 +26,7 @@ total n = codes "tokens " ++ (decimal n ++ codes "\n")
 
 -- the line of a refusal: its number and place
 abbrev pub refused_line : ℕ → ℕ → List ℕ
-refused_line number place = codes "refused " ++ (decimal number ++ (codes " at " ++ (decimal place ++ codes "\n")))
+refused_line number place = refused_text number place ++ codes "\n"
 
 -- what is printed of a recipe
 pub data Listed (recipe : List ℕ) : List ℕ → Type 0 where

@@ -1,8 +1,7 @@
 // A growable sequence over a lent slice.
 #![tactic(auto)]
 
-ghost use Rattle.std.specs.Prelude.{◌≡◌, ◌-◌, ◌<◌, ◌≤◌, [], ◌∷◌, ◌++◌, length, take, if◌then◌else◌, MatchOption, MatchResult, ◌==◌, nat_lt, slice_index_or, slice_set};
-ghost use Rattle.slicevec.specs.Held.{held, room};
+ghost use Rattle.std.specs.Prelude.{◌≡◌, ◌-◌, ◌<◌, ◌≤◌, [], ◌∷◌, ◌++◌, length, min, take, if◌then◌else◌, MatchOption, MatchResult, ◌==◌, nat_lt, slice_index_or, slice_set};
 
 /// Only the first `MAX_ENTRIES` entries of a longer slice are ever taken.
 pub const MAX_ENTRIES: usize = 1_048_576;
@@ -12,18 +11,22 @@ pub const MAX_ENTRIES: usize = 1_048_576;
 pub struct Full;
 
 /// The first `taken` entries of a lent slice. What the slice holds beyond them is never read.
+// The count stands beside the slice, since the memory is lent and of fixed size.
 #[derive(Drop)]
 pub struct SliceVec<'a, T> {
     entries: &'a mut [T],
     taken: usize,
+    ghost within: { taken ≤ min (length entries.now) 1048576 },
 }
 
 impl<'a, T: Copy> SliceVec<'a, T> {
+    ghost use Rattle.slicevec.specs.Held.{held, room, memory, lender, KeepsMemory};
+
     /// An empty sequence over `entries`, whose lender finds there what is pushed.
     pub fn new(entries: &'a mut [T]) -> SliceVec<'a, T>
         ensures empty { held result ≡ [] }
-        ensures memory { result.entries.now ≡ entries.old }
-        ensures lender { result.entries.ghost_name ≡ entries.entry.ghost_name }
+        ensures memory { memory result ≡ entries.old }
+        ensures lender { lender result ≡ entries.entry.ghost_name }
     {
         SliceVec { entries, taken: 0 }
     }
@@ -32,12 +35,7 @@ impl<'a, T: Copy> SliceVec<'a, T> {
     pub fn as_slice(&self) -> &[T]
         ensures { result.now ≡ held self.now }
     {
-        let entries: &[T] = self.entries;
-        if self.taken < entries.len() {
-            &entries[..self.taken]
-        } else {
-            entries
-        }
+        &self.entries[..self.taken]
     }
 
     /// How many entries are taken.
@@ -58,7 +56,7 @@ impl<'a, T: Copy> SliceVec<'a, T> {
     pub fn room_left(&self) -> usize
         ensures { result ≡ room self.now - length (held self.now) }
     {
-        self.capacity().saturating_sub(self.len())
+        self.capacity() - self.taken
     }
 
     // How many entries there can be.
@@ -72,9 +70,8 @@ impl<'a, T: Copy> SliceVec<'a, T> {
     pub fn push(&mut self, x: T) -> Result<usize, Full>
         ensures refused { MatchResult result (λ i. (i ≡ length (held self.old)) × (i < room self.old)) (λ _. room self.old ≤ length (held self.old)) }
         ensures pushed { MatchResult result (λ _. held self.new ≡ held self.old ++ x ∷ []) (λ _. held self.new ≡ held self.old) }
-        ensures memory { MatchResult result (λ i. self.new.entries.now ≡ slice_set self.old.entries.now i x) (λ _. self.new.entries.now ≡ self.old.entries.now) }
-        ensures size { room self.new ≡ room self.old }
-        ensures lender { self.new.entries.ghost_name ≡ self.old.entries.ghost_name }
+        ensures memory { MatchResult result (λ i. memory self.new ≡ slice_set (memory self.old) i x) (λ _. memory self.new ≡ memory self.old) }
+        ensures kept { KeepsMemory self.old self.new }
     {
         let at = self.taken;
         if at >= self.capacity() {
@@ -96,9 +93,8 @@ impl<'a, T: Copy> SliceVec<'a, T> {
     pub fn set(&mut self, i: usize, x: T) -> bool
         ensures found { result ≡ nat_lt i (length (held self.old)) }
         ensures changed { held self.new ≡ slice_set (held self.old) i x }
-        ensures memory { self.new.entries.now ≡ (if result then slice_set self.old.entries.now i x else self.old.entries.now) }
-        ensures size { room self.new ≡ room self.old }
-        ensures lender { self.new.entries.ghost_name ≡ self.old.entries.ghost_name }
+        ensures memory { memory self.new ≡ (if result then slice_set (memory self.old) i x else memory self.old) }
+        ensures kept { KeepsMemory self.old self.new }
     {
         let found = i < self.len();
         if found {
@@ -109,10 +105,9 @@ impl<'a, T: Copy> SliceVec<'a, T> {
 
     /// Keeps the first `n` entries taken, or all where there are no more than `n`.
     pub fn truncate(&mut self, n: usize)
-        ensures kept { held self.new ≡ take n (held self.old) }
-        ensures memory { self.new.entries.now ≡ self.old.entries.now }
-        ensures size { room self.new ≡ room self.old }
-        ensures lender { self.new.entries.ghost_name ≡ self.old.entries.ghost_name }
+        ensures cut { held self.new ≡ take n (held self.old) }
+        ensures memory { memory self.new ≡ memory self.old }
+        ensures kept { KeepsMemory self.old self.new }
     {
         if n < self.taken {
             self.taken = n;

@@ -1,5 +1,4 @@
-pub mod Racks
 pub mod Steps
 pub mod Words
-pub mod Tenths
+pub mod Racks
 pub mod Worked

@@ -1,37 +1,33 @@
--- What waits in a rack: its first byte, what is behind it, and that they are bytes.
-use Rattle.std.proofs.Common.{◌≡◌, ℕ, ◌+◌, ◌<◌, ◌≤◌, List, [], ◌∷◌, ◌++◌, length, get_or, take, drop, Some, codes, sym, ap, ◌∙◌, arith, length-append, length-take, get_or-take, drop-drop}
-use lib.Seq.{drop-append-le}
-use Rattle.std.proofs.lemmas.List.{drop_more, drop_all}
-use Rattle.source.specs.Racks.{told, line, rack_text, in_rack}
+-- What waits in a rack: its first byte, and what is behind a line.
+use Rattle.std.proofs.Common.{◌≡◌, ℕ, zero, suc, ◌/◌, ◌≤◌, Bool, true, false, cond, List, [], ◌∷◌, ◌++◌, length, drop, codes, decimal, nat_le, Some, None, Option, unwrap_or, slice_get, slice_index, refl, sym, arith, leb-true, lit≤}
+use Rattle.std.proofs.lemmas.Fmt.{length-decimal-le}
+use Rattle.std.proofs.lemmas.Option.{same_Some}
+use Rattle.source.specs.Racks.{told, rack_text}
 use Rattle.source.specs.Waiting.{first}
 
--- every line has a byte
-pub line_some : (r : ℕ) → 0 < length (line r)
-line_some r = omega (arith, length-append (told r) (codes "\n"))
+short : (live : Bool) (r : ℕ) → nat_le r 9999 ≡ live → length (cond live (decimal (r / 10)) (codes "-1")) ≤ 3
+short true r e = let bound = leb-true r 9999 e in length-decimal-le 3 (r / 10) (omega arith) (omega arith) (omega arith)
+short false r e = lit≤ tt
 
-module _ (rs : List ℕ) (p t : ℕ) where
-  pub rack_end : length rs ≤ p → in_rack rs p t ≡ []
-  rack_end past = ap (λ l. drop t (rack_text l)) (drop_all p rs past) ∙ drop_all t [] (omega arith)
+-- what a reading is told as is short
+pub told_short : (r : ℕ) → length (told r) ≤ 3
+told_short r = short (nat_le r 9999) r refl
 
-  pub rack_next : in_rack rs p (t + 1) ≡ drop 1 (in_rack rs p t)
-  rack_next = sym (drop-drop 1 t (rack_text (drop p rs)))
+-- in a line stands at a place a byte of its text, or behind that the line feed
+line_first : (text after : List ℕ) (t : ℕ) → t ≤ length text → first (drop t ((text ++ codes "\n") ++ after)) ≡ Some (unwrap_or (slice_get text t) 10)
+line_first [] after zero h = refl
+line_first [] after (suc t) h = absurd (omega arith)
+line_first (b ∷ text) after zero h = refl
+line_first (b ∷ text) after (suc t) h = line_first text after t (omega arith)
 
-  module _ (there : p < length rs) (inside : t < length (line (get_or rs p 0))) where
-    -- what waits begins with a byte of the line of the reading at the place
-    rack_front : in_rack rs p t ≡ get_or (line (get_or rs p 0)) t 0 ∷ (drop (t + 1) (line (get_or rs p 0)) ++ rack_text (drop (p + 1) rs))
-    rack_front =
-        let text = line (get_or rs p 0) in
-        let after = rack_text (drop (p + 1) rs) in
-        ap (λ l. drop t (rack_text l)) (drop_more rs p 0 there) ∙ drop-append-le t text after (omega arith) ∙ ap (λ l. l ++ after) (drop_more text t 0 inside)
+-- behind the line feed stands what is behind the line
+pub line_over : (text after : List ℕ) (t : ℕ) → t ≤ length text → slice_get text t ≡ None → drop 1 (drop t ((text ++ codes "\n") ++ after)) ≡ after
+line_over [] after zero h e = refl
+line_over [] after (suc t) h e = absurd (omega arith)
+line_over (b ∷ text) after zero h e = absurd (grind arith)
+line_over (b ∷ text) after (suc t) h e = line_over text after t (omega arith) e
 
-    -- the first byte, where some bytes begin with the line
-    pub rack_first : (bytes : List ℕ) (len : ℕ) → take len bytes ≡ line (get_or rs p 0) → Some (get_or bytes t 0) ≡ first (in_rack rs p t)
-    rack_first bytes len e =
-        let short : t < len = omega (arith, ap length e, length-take len bytes) in
-        ap Some (sym (get_or-take len bytes t 0 short) ∙ ap (λ l. get_or l t 0) e) ∙ sym (ap first rack_front)
-
-    -- behind the last byte of a line stands the next line
-    pub rack_over : (bytes : List ℕ) (len : ℕ) → take len bytes ≡ line (get_or rs p 0) → len ≤ t + 1 → in_rack rs (p + 1) 0 ≡ drop 1 (in_rack rs p t)
-    rack_over bytes len e last =
-        let ends : length (line (get_or rs p 0)) ≤ t + 1 = omega (arith, ap length e, length-take len bytes) in
-        sym (ap (drop 1) rack_front ∙ ap (λ l. l ++ rack_text (drop (p + 1) rs)) (drop_all (t + 1) (line (get_or rs p 0)) ends))
+-- the first byte that waits, where a reading is the first: a byte of what it is told as, or the line feed
+pub rack_first : (readings : List ℕ) (r t : ℕ) (byte : Option ℕ) → slice_get readings 0 ≡ Some r → t ≤ length (told (slice_index readings 0)) → byte ≡ slice_get (told r) t → Some (unwrap_or byte 10) ≡ first (drop t (rack_text readings))
+rack_first [] r t byte e h b = absurd (grind arith)
+rack_first (r' ∷ rest) r t byte e h b = rw (b, ← same_Some r' r e) (sym (line_first (told r') (rack_text rest) t h))

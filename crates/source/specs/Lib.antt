@@ -1,6 +1,7 @@
 pub mod Waiting
 pub mod Racks
-pub mod Rules
+pub mod Rack
+pub mod Tape
 pub mod Bytes
 pub mod Reading
 pub mod Examples

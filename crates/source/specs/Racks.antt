@@ -1,5 +1,5 @@
 -- The text of a rack: what its readings are told as.
-use Rattle.std.specs.Prelude.{ℕ, ◌/◌, cond, List, ◌++◌, drop, codes, decimal, nat_le}
+use Rattle.std.specs.Prelude.{ℕ, ◌/◌, cond, List, ◌++◌, codes, decimal, nat_le}
 use Rattle.std.specs.List.{flat_map}
 
 -- a reading up to 9,999, in hundredths, is told in tenths, the last digit dropped; a higher one is a dead probe's
@@ -13,7 +13,3 @@ line reading = told reading ++ codes "\n"
 -- the text of a rack: the lines of its readings
 abbrev pub rack_text : List ℕ → List ℕ
 rack_text readings = flat_map line readings
-
--- in a rack waits the text of the readings still to be told, without the bytes taken of the first
-abbrev pub in_rack : List ℕ → ℕ → ℕ → List ℕ
-in_rack readings place taken = drop taken (rack_text (drop place readings))

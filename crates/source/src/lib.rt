@@ -16,9 +16,6 @@ pub use tape::Tape;
 pub trait Source {
     ghost waiting: { Self → List ℕ };
 
-    // what waits are bytes
-    ghost bytes: { (s : Self) (i : ℕ) → slice_index (waiting s) i < 256 };
-
     /// The first waiting byte, or none exactly when nothing waits; it stays.
     fn look(&self) -> Option<u8>
         ensures { result ≡ first (waiting self.now) };
@@ -27,6 +24,9 @@ pub trait Source {
     fn take(&mut self) -> Option<u8>
         ensures answer { result ≡ first (waiting self.old) }
         ensures rest { waiting self.new ≡ drop 1 (waiting self.old) };
+
+    // What waits are bytes. A source is no `Model`: its value would be a list with a proof of this in it, which is no plainer.
+    ghost bytes: { (s : Self) (i : ℕ) → slice_index (waiting s) i < 256 };
 }
 
 #[cfg(test)]

@@ -1,11 +1,13 @@
 // Reading from any source.
-ghost use Rattle.std.specs.Prelude.{◌≡◌, ◌<◌, ◌≤◌, min, MatchOption};
+ghost use Rattle.std.specs.Prelude.{◌≡◌, ℕ, ◌+◌, ◌-◌, ◌*◌, ◌^◌, ◌<◌, ◌↔◌, false, IsTrue, drop, option_and_then, if◌then◌else◌};
+ghost use Rattle.std.specs.Bool.{then_some};
 ghost use Rattle.std.specs.List.{prefix_len};
-ghost use Rattle.lexer.specs.Classes.{digit as is_digit};
+ghost use Rattle.std.specs.Option.{option_map_or, SomeIff};
+ghost use Rattle.lexer.specs.Classes.{blank, digit as is_digit};
 ghost use Rattle.lexer.specs.Runs.{decimal};
 ghost use Rattle.source.specs.Examples.{Examples};
 ghost use Rattle.source.specs.Reading.{after_blanks, minus_next, after_minus, digits_of, after_digits, number, Fits, IntRead, CharRead};
-ghost use Rattle.source.specs.Rules.{blank_in, minus_in, digit_in, goes_on};
+ghost use Rattle.source.specs.Waiting.{first};
 
 use crate::Source;
 use lexer::{Class, class_of};
@@ -19,52 +21,45 @@ pub enum ReadFault {
     NoNumber,
 }
 
-/// One more than the amount of the least word: no number of this amount is a word.
-const TOO_LARGE: u64 = 2_147_483_649;
-
 // Whether the next byte is a blank.
 fn is_blank(next: Option<u8>) -> bool
-    ensures { result ≡ blank_in next }
+    ensures { result ≡ option_map_or blank next false }
 {
-    match next {
-        Some(byte) => match class_of(byte) {
-            Class::Blank => true,
-            _ => false,
-        },
-        None => false,
-    }
+    next.is_some_and(|byte| class_of(byte) == Class::Blank)
 }
 
 // Whether the next byte is a minus.
 fn is_minus(next: Option<u8>) -> bool
-    ensures { result ≡ minus_in next }
+    ensures { IsTrue result ↔ (next ≡ Some 45) }
 {
-    match next {
-        Some(byte) => byte == b'-',
-        None => false,
-    }
+    next == Some(b'-')
 }
 
 // The value of the next byte as a digit.
-fn digit(next: Option<u8>) -> Option<u64>
-    ensures { result ≡ digit_in next }
+fn digit(next: Option<u8>) -> Option<u32>
+    ensures { result ≡ option_and_then (λ b. then_some (is_digit b) (b - 48)) next }
 {
-    match next {
-        Some(byte) => match class_of(byte) {
-            Class::Digit => Some(u64::from(byte - b'0')),
-            _ => None,
-        },
-        None => None,
+    next.and_then(|byte| char::from(byte).to_digit(10))
+}
+
+// Takes the next byte where it passes.
+fn take_if<S: Source, F: Fn(Option<u8>) -> bool>(source: &mut S, passes: F) -> bool
+    requires { F.IsAlwaysCallable passes }
+    ensures answer { F.post passes (first (S.waiting source.old)) result }
+    ensures rest { S.waiting source.new ≡ drop (if result then 1 else 0) (S.waiting source.old) }
+{
+    let pass = passes(source.look());
+    if pass {
+        let _ = source.take();
     }
+    pass
 }
 
 // Takes the blanks in front.
 fn skip_blanks<S: Source>(source: &mut S)
     ensures { S.waiting source.new ≡ after_blanks (S.waiting source.old) }
 {
-    while is_blank(source.look()) {
-        let _ = source.take();
-    }
+    while take_if(source, is_blank) {}
 }
 
 // Takes a minus, if one is next.
@@ -72,51 +67,37 @@ fn take_minus<S: Source>(source: &mut S) -> bool
     ensures answer { result ≡ minus_next (S.waiting source.old) }
     ensures rest { S.waiting source.new ≡ after_minus (S.waiting source.old) }
 {
-    let minus = is_minus(source.look());
-    if minus {
-        let _ = source.take();
-    }
-    minus
+    take_if(source, is_minus)
 }
 
-// Takes the digits in front, which go on with an amount; in the place of a larger one stands `TOO_LARGE`.
-fn more_digits<S: Source>(source: &mut S, begun: u64) -> u64
-    requires { begun ≤ 2147483649 }
-    ensures amount { result ≡ min (goes_on begun (digits_of (S.waiting source.old))) 2147483649 }
+// An amount with one digit more, where a `u32` holds both.
+fn more(amount: Option<u32>, value: u32) -> Option<u32>
+    ensures { (n : ℕ) → SomeIff amount (n < 2 ^ 32) n → SomeIff result (n * 10 + value < 2 ^ 32) (n * 10 + value) }
+{
+    amount?.checked_mul(10)?.checked_add(value)
+}
+
+// Takes the digits in front, and answers their amount, if there are any and a `u32` holds it.
+fn take_digits<S: Source>(source: &mut S) -> Option<u32>
+    ensures amount { SomeIff result ((0 < prefix_len is_digit (S.waiting source.old)) × (decimal (digits_of (S.waiting source.old)) < 2 ^ 32)) (decimal (digits_of (S.waiting source.old))) }
     ensures rest { S.waiting source.new ≡ after_digits (S.waiting source.old) }
 {
-    let mut amount = begun;
+    digit(source.look())?;
+    let mut amount = Some(0);
+    // Not by `take_if`, which tells no value.
     while let Some(value) = digit(source.look()) {
         let _ = source.take();
-        amount = (amount * 10 + value).min(TOO_LARGE);
+        amount = more(amount, value);
     }
     amount
 }
 
-// Takes the digits in front, and answers their amount, if there are any.
-fn take_digits<S: Source>(source: &mut S) -> Option<u64>
-    ensures amount { MatchOption result (prefix_len is_digit (S.waiting source.old) ≡ 0) (λ n. (0 < prefix_len is_digit (S.waiting source.old)) × (n ≡ min (decimal (digits_of (S.waiting source.old))) 2147483649)) }
-    ensures rest { S.waiting source.new ≡ after_digits (S.waiting source.old) }
-{
-    let first = digit(source.look())?;
-    let _ = source.take();
-    Some(more_digits(source, first))
-}
-
 // The word of a minus or none and an amount, where it is one.
-fn word(minus: bool, amount: u64) -> Option<i32>
-    requires { amount ≤ 2147483649 }
-    ensures { MatchOption result (Fits minus amount → ⊥) (λ z. Fits minus amount × (z ≡ number minus amount)) }
+fn word(minus: bool, amount: u32) -> Option<i32>
+    ensures { SomeIff result (Fits minus amount) (number minus amount) }
 {
-    let value = if minus {
-        -(amount as i64)
-    } else {
-        amount as i64
-    };
-    if value < -2_147_483_648 || value > 2_147_483_647 {
-        return None;
-    }
-    Some(value as i32)
+    let value = i64::from(amount);
+    i32::try_from(if minus { -value } else { value }).ok()
 }
 
 /// Reads an int: takes blanks, then a minus if one is next, then all digits; the next byte stays.
@@ -125,14 +106,11 @@ pub fn read_int<S: Source>(source: &mut S) -> Result<i32, ReadFault>
     ensures examples { Examples }
 {
     skip_blanks(source);
-    if source.look().is_none() {
-        return Err(ReadFault::NothingWaits);
-    }
+    source.look().ok_or(ReadFault::NothingWaits)?;
     let minus = take_minus(source);
-    match take_digits(source) {
-        Some(amount) => word(minus, amount).ok_or(ReadFault::NoNumber),
-        None => Err(ReadFault::NoNumber),
-    }
+    take_digits(source)
+        .and_then(|amount| word(minus, amount))
+        .ok_or(ReadFault::NoNumber)
 }
 
 /// Reads a char: takes one byte.

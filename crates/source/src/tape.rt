@@ -11,17 +11,20 @@ pub struct Tape<'a> {
 }
 
 impl<'a> Tape<'a> {
+    ghost use Rattle.source.specs.Tape.{text_left};
+
     /// A tape of which nothing is taken.
     pub fn new(text: &'a [u8]) -> Tape<'a>
-        ensures { result.rest.now ≡ text.now }
+        ensures { text_left result ≡ text.now }
     {
-        let (_taken, rest) = text.split_at(0);
-        Tape { rest }
+        Tape { rest: text }
     }
 }
 
 impl Source for Tape<'_> {
-    ghost waiting = { λ t. t.rest.now };
+    ghost use Rattle.source.specs.Tape.{text_left};
+
+    ghost waiting = { text_left };
 
     ghost bytes = { λ t. t.bytes };
 
@@ -30,11 +33,8 @@ impl Source for Tape<'_> {
     }
 
     fn take(&mut self) -> Option<u8> {
-        let [byte, rest @ ..] = self.rest else {
-            return None;
-        };
-        let byte = *byte;
+        let (byte, rest) = self.rest.split_first()?;
         self.rest = rest;
-        Some(byte)
+        Some(*byte)
     }
 }

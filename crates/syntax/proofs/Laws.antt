@@ -1,7 +1,7 @@
 -- The laws of the parser's paths: what they derive, that nothing else can be derived, and what it means that one is blocked.
-use Rattle.std.proofs.Common.{◌≡◌, ℕ, ◌+◌, ◌<◌, List, [], ◌∷◌, ◌++◌, length, Some, None, Option, sym, refl, ap, ◌∙◌, subst, true≢false, append-nil, arith, length-append}
+use Rattle.std.proofs.Common.{◌≡◌, ℕ, ◌+◌, ◌<◌, List, [], ◌∷◌, ◌++◌, length, Some, None, Option, sym, refl, ap, ◌∙◌, subst, append-nil, arith, length-append}
 use Rattle.lexer.specs.declared.Token.{Token}
-use Rattle.syntax.specs.Sorts.{ahead}
+use Rattle.syntax.specs.Terminals.{ahead}
 use Rattle.syntax.specs.Grammar.{right, tail}
 use Rattle.syntax.specs.Derivations.{nested, Frame, frame, Derives, finish, token, unless, begin, make, choose, leave, outermost, Program}
 use Rattle.syntax.specs.Parsing.{Shallow, through}
@@ -93,9 +93,9 @@ through_ahead (t ∷ rest) more = refl
 -- nothing is derived from where the grammar does not go on
 blocked : (rest more : List Token) {u : List Frame} {f : Forest} {ds : List ℕ} → Blocked Grammar rest u → Derives (through rest more) u f ds → ⊥
 blocked [] more (other_token e) b = elim b [ ]
-blocked (t ∷ rest) more (other_token e) (token e' b) = true≢false (sym e' ∙ e)
-blocked [] more (barred e) (unless e' b) = true≢false (sym e ∙ e')
-blocked (t ∷ rest) more (barred e) (unless e' b) = true≢false (sym e ∙ e')
+blocked (t ∷ rest) more (other_token e) (token e' b) = e e'
+blocked [] more (barred e) (unless e' b) = e' e
+blocked (t ∷ rest) more (barred e) (unless e' b) = e' e
 blocked (t ∷ rest) more left_over b = elim b [ ]
 
 -- so no program begins with the tokens passed and the next one

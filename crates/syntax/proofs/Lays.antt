@@ -17,11 +17,8 @@ use Rattle.syntax.proofs.Sizes.{length_entries, length_loose}
 -- a node over trees is one entry more
 one_more : (front : List Node) (start : ℕ) (own : Own) (f : Forest) → length (front ++ entries start None Value (node own.kind own.place f)) ≡ length (front ++ loose start f) + 1
 one_more front start own f =
-    let x = length-append front (entries start None Value (node own.kind own.place f)) in
-    let y = length-append front (loose start f) in
-    let z = length_entries start None Value (node own.kind own.place f) in
-    let w = length_loose start f in
-    omega arith
+    let tree = node own.kind own.place f in
+    omega (arith, length-append front (entries start None Value tree), length-append front (loose start f), length_entries start None Value tree, length_loose start f)
 
 -- where the table does not hold all nodes, there was no room for them
 pub laid_nowhere : (old : SliceVec Node) (made : ℕ) (own : Own) (start : ℕ) → (length (held old) ≡ made → ⊥) → Laid old old made own start
@@ -30,14 +27,14 @@ laid_nowhere old made own start other = record {
       let more = one_more front start own f in
       let many = h.many in
       record {
-        many = more ∙ ap (λ n. n + 1) many;
+        many = omega arith;
         stored = λ le. absurd (other (ap length (h.stored (omega arith)) ∙ many));
       };
 }
 
 pushed : (mid new : SliceVec Node) (x : Node) (wanted : List Node) (r : Result ℕ Full) → held mid ++ x ∷ [] ≡ wanted → length wanted ≤ room mid → MatchResult r (λ i. (i ≡ length (held mid)) × (i < room mid)) (λ _. room mid ≤ length (held mid)) → MatchResult r (λ _. held new ≡ held mid ++ x ∷ []) (λ _. held new ≡ held mid) → held new ≡ wanted
 pushed mid new x wanted (Ok i) e le refused done = done ∙ e
-pushed mid new x wanted (Err f) e le refused done = absurd (let n = ap length e in let m = length_push (held mid) x in omega arith)
+pushed mid new x wanted (Err f) e le refused done = absurd (omega (arith, ap length e, length_push (held mid) x))
 
 -- the links are made, and then the node is pushed
 pub laid_there : (old mid new : SliceVec Node) (made : ℕ) (own : Own) (start : ℕ) (used : Use) (first : Option ℕ) (r : Result ℕ Full) → used ≡ first_use own.kind → room mid ≡ room old → room new ≡ room mid → Linked (held old) (held mid) start used first → MatchResult r (λ i. (i ≡ length (held mid)) × (i < room mid)) (λ _. room mid ≤ length (held mid)) → MatchResult r (λ _. held new ≡ held mid ++ record { kind = own.kind; place = own.place; start = start; first = first; next = None; used = Value; note = Unjudged } ∷ []) (λ _. held new ≡ held mid) → Laid old new made own start
@@ -46,7 +43,7 @@ laid_there old mid new made own start used first r same size-mid size-new l refu
       let more = one_more front start own f in
       let many = h.many in
       record {
-        many = more ∙ ap (λ n. n + 1) many;
+        many = omega arith;
         stored = λ le.
             let was = h.stored (omega arith) in
             let x : Option ℕ → Node = λ o. record { kind = own.kind; place = own.place; start = start; first = o; next = None; used = Value; note = Unjudged } in

@@ -1,11 +1,11 @@
 pub mod Tables
-pub mod Predictions
+pub mod Listed
+pub mod Terminals
 pub mod Sizes
 pub mod Links
 pub mod Lays
 pub mod Taking
 pub mod Paths
-pub mod Bounds
 pub mod Sides
 pub mod Checked
 pub mod First

@@ -31,7 +31,7 @@ all_loose old start used = record {
     waiting = f;
     done = [];
     now_is = e ∙ ap (λ l. front ++ l) (sym (append-nil (loose start f)));
-    end_is = ap length e ∙ (let x = length-append front (loose start f) in let y = length_loose start f in omega arith);
+    end_is = ap length e ∙ omega (arith, length-append front (loose start f), length_loose start f);
     links = sym (append-nil (parts start None used f));
     begun = refl;
   };
@@ -49,7 +49,7 @@ relinked start used next e = tied (leb e.start start) used next e
 -- only the first of the trees begins at the start
 behind : (start : ℕ) (used : Use) (g : Forest) → cond (leb (start + sizes g) start) used Value ≡ use_behind g used
 behind start used bare = ap (λ b. cond b used Value) (le-leb (start + 0) start (omega arith))
-behind start used (grown g t) = ap (λ b. cond b used Value) (lt-leb (start + (sizes g + size t)) start (let x = some_node t in omega arith))
+behind start used (grown g t) = ap (λ b. cond b used Value) (lt-leb (start + (sizes g + size t)) start (omega (arith, some_node t)))
 
 -- the entry x behind front, a and b, however they are bracketed
 inside_out : (front a b done : List Node) (x : Node) → front ++ (a ++ ((b ++ x ∷ []) ++ done)) ≡ (front ++ (a ++ b)) ++ x ∷ done
@@ -67,12 +67,7 @@ one_less start used front now f next end d m lt len e (grown g (node k p h)) don
     let old : Node = record { kind = k; place = p; start = b; first = first_root b h None; next = None; used = Value; note = Unjudged } in
     let new : Node = record { kind = k; place = p; start = b; first = first_root b h None; next = next; used = use_behind g used; note = Unjudged } in
     let last : end - 1 ≡ b + sizes h = omega arith in
-    let before : length (front ++ (loose start g ++ xs)) ≡ end - 1 =
-    let x = length-append front (loose start g ++ xs) in
-    let y = length-append (loose start g) xs in
-    let z = length_loose start g in
-    let w = length_parts b None (first_use k) h in
-    omega arith in
+    let before : length (front ++ (loose start g ++ xs)) ≡ end - 1 = simp length-append (omega (arith, length_loose start g, length_parts b None (first_use k) h)) in
     let spread : now ≡ (front ++ (loose start g ++ xs)) ++ old ∷ done = now_is ∙ from_tree front (loose start g) xs done old in
     let read : get_or now (end - 1) d ≡ old = ap (λ l. get_or l (end - 1) d) spread ∙ get_or_at (front ++ (loose start g ++ xs)) old done d (end - 1) before in
     let written : m ≡ new = e ∙ ap (relinked start used next) read ∙ ap (λ u. record { kind = k; place = p; start = b; first = first_root b h None; next = next; used = u; note = Unjudged }) (behind start used g) in
@@ -101,17 +96,17 @@ one_linked old now new start used next end left d m lt e New-is left_is l =
 -- where no tree is loose, all have their links
 none_loose : (start : ℕ) (g : Forest) → start + sizes g ≤ start → g ≡ bare
 none_loose start bare le = refl
-none_loose start (grown g t) le = absurd (let x = some_node t in omega arith)
+none_loose start (grown g t) le = absurd (omega (arith, some_node t))
 
 pub all_linked : (old now : List Node) (start : ℕ) (used : Use) (next : Option ℕ) (end : ℕ) → end ≤ start → Linking old now start used next end → Linked old now start used next
 all_linked old now start used next end le l = record {
   linked = λ front f was len.
       let h = l.half front f was len in
-      let none = none_loose start h.waiting (let x = h.end_is in omega arith) in
+      let none = none_loose start h.waiting (omega (arith, h.end_is)) in
       h.now_is ∙ ap (λ g. front ++ (loose start g ++ h.done)) none ∙ ap (λ l. front ++ l) (sym (h.links ∙ ap (λ g. parts start next used g ++ h.done) none));
   begun = λ front f was len.
       let h = l.half front f was len in
-      let none = none_loose start h.waiting (let x = h.end_is in omega arith) in
+      let none = none_loose start h.waiting (omega (arith, h.end_is)) in
       sym (h.begun ∙ ap (λ g. first_root start g next) none);
   long = l.long;
 }

@@ -2,7 +2,7 @@
 use Rattle.std.proofs.Common.{◌≡◌, List, [], ◌∷◌, ◌++◌, sym, refl, ap, ◌∙◌, subst}
 use mathlib.Core.List.{append_cancel_right}
 use Rattle.lexer.specs.declared.Token.{Token}
-use Rattle.syntax.specs.Sorts.{alike, ahead}
+use Rattle.syntax.specs.Terminals.{ahead}
 use Rattle.syntax.specs.Choices.{predicted}
 use Rattle.syntax.specs.Derivations.{Frame}
 use Rattle.syntax.specs.Reaching.{Reach, here, token, unless, begin, make, choose, leave}
@@ -28,7 +28,7 @@ around (choose e a) w = choose e (around a w)
 around (leave a) w = leave (around a w)
 
 -- the next token is the same behind the same tokens
-ahead_same : (before us vs : List Token) → ahead vs ≡ ahead us → ahead (before ++ vs) ≡ ahead (before ++ us)
+pub ahead_same : (before us vs : List Token) → ahead vs ≡ ahead us → ahead (before ++ vs) ≡ ahead (before ++ us)
 ahead_same [] us vs h = h
 ahead_same (t ∷ before) us vs h = refl
 
@@ -36,7 +36,7 @@ ahead_same (t ∷ before) us vs h = refl
 pub passed : {ts us : List Token} {s u : List Frame} → Reach ts s us u → (before : List Token) × (ts ≡ before ++ us) × ((vs : List Token) → ahead vs ≡ ahead us → Reach (before ++ vs) s vs u)
 passed here = ([], refl, λ vs h. here)
 passed (token {t = t} e d a) = let p = passed a in (t ∷ p.0, ap {B = List Token} (λ ts. t ∷ ts) p.1, λ vs h. token e d (p.2 vs h))
-passed (unless {us = us} {k = k} e a) = let p = passed a in (p.0, p.1, λ vs h. unless (ap (alike k) (ahead_same p.0 us vs h ∙ sym (ap ahead p.1)) ∙ e) (p.2 vs h))
+passed (unless {us = us} e a) = let p = passed a in (p.0, p.1, λ vs h. unless (λ x. e (ap ahead p.1 ∙ sym (ahead_same p.0 us vs h) ∙ x)) (p.2 vs h))
 passed (begin a) = let p = passed a in (p.0, p.1, λ vs h. begin (p.2 vs h))
 passed (make a) = let p = passed a in (p.0, p.1, λ vs h. make (p.2 vs h))
 passed (choose {us = us} {p = q} e a) = let p = passed a in (p.0, p.1, λ vs h. choose (e ∙ ap (predicted q) (ap ahead p.1 ∙ sym (ahead_same p.0 us vs h))) (p.2 vs h))

@@ -9,23 +9,15 @@ use Rattle.syntax.specs.Trees.{Tree, node, Forest, bare, grown, join, size, size
 -- a tree takes as many entries as it has nodes
 mutual
   pub length_entries : (b : ℕ) (next : Option ℕ) (u : Use) (t : Tree) → length (entries b next u t) ≡ size t
-  length_entries b next u (node k p f) = length-append (parts b None (first_use k) f) _ ∙ ap (λ n. n + 1) (length_parts b None (first_use k) f)
+  length_entries b next u (node k p f) = simp length-append (omega (arith, length_parts b None (first_use k) f))
 
   pub length_parts : (b : ℕ) (next : Option ℕ) (u : Use) (f : Forest) → length (parts b next u f) ≡ sizes f
   length_parts b next u bare = refl
-  length_parts b next u (grown f t) =
-      let x = length-append (parts b (Some (root (b + sizes f) t)) u f) (entries (b + sizes f) next (use_behind f u) t) in
-      let y = length_parts b (Some (root (b + sizes f) t)) u f in
-      let z = length_entries (b + sizes f) next (use_behind f u) t in
-      omega arith
+  length_parts b next u (grown f t) = simp length-append (omega (arith, length_parts b (Some (root (b + sizes f) t)) u f, length_entries (b + sizes f) next (use_behind f u) t))
 
 pub length_loose : (b : ℕ) (f : Forest) → length (loose b f) ≡ sizes f
 length_loose b bare = refl
-length_loose b (grown f t) =
-    let x = length-append (loose b f) (entries (b + sizes f) None Value t) in
-    let y = length_loose b f in
-    let z = length_entries (b + sizes f) None Value t in
-    omega arith
+length_loose b (grown f t) = simp length-append (omega (arith, length_loose b f, length_entries (b + sizes f) None Value t))
 
 -- a tree has a node
 pub some_node : (t : Tree) → 0 < size t
@@ -33,13 +25,13 @@ some_node (node k p f) = omega arith
 
 pub sizes_join : (f g : Forest) → sizes (join f g) ≡ sizes f + sizes g
 sizes_join f bare = omega arith
-sizes_join f (grown g t) = let x = sizes_join f g in omega arith
+sizes_join f (grown g t) = omega (arith, sizes_join f g)
 
 -- loose trees behind others
 pub loose_join : (b : ℕ) (f g : Forest) → loose b (join f g) ≡ loose b f ++ loose (b + sizes f) g
 loose_join b f bare = sym (append-nil (loose b f))
 loose_join b f (grown g t) =
-    let at : b + sizes (join f g) ≡ b + sizes f + sizes g = let x = sizes_join f g in omega arith in
+    let at : b + sizes (join f g) ≡ b + sizes f + sizes g = omega (arith, sizes_join f g) in
     ap (λ l. l ++ entries (b + sizes (join f g)) None Value t) (loose_join b f g)
     ∙ ap (λ n. (loose b f ++ loose (b + sizes f) g) ++ entries n None Value t) at
     ∙ append_assoc (loose b f) (loose (b + sizes f) g) (entries (b + sizes f + sizes g) None Value t)

@@ -1,6 +1,12 @@
--- What the next token can be: of each part the kinds that it can begin with and that can follow it, by number, and whether it can
--- be empty; and the number of each rule.
-use Rattle.std.proofs.Common.{◌≡◌, ℕ, Bool, true, false, List, [], ◌∷◌, get_or, refl}
+-- What the next token can be: of each part the terminals that it can begin with and that can follow it, and whether it can be
+-- empty.
+use Rattle.std.proofs.Common.{ℕ, Bool, true, false, List, [], ◌∷◌, Some, None, Option}
+use Rattle.lexer.specs.declared.Keyword.{Keyword}
+use Rattle.lexer.specs.declared.Keyword.TheVariants as W
+use Rattle.lexer.specs.declared.Operator.{Operator}
+use Rattle.lexer.specs.declared.Operator.TheVariants as S
+use Rattle.syntax.specs.declared.grammar.Terminal.{Terminal}
+use Rattle.syntax.specs.declared.grammar.Terminal.TheVariants as T
 use Rattle.syntax.specs.declared.grammar.Part.{Part}
 use Rattle.syntax.specs.declared.grammar.Part.TheVariants as P
 use Rattle.syntax.specs.declared.grammar.Rule.{Rule}
@@ -8,158 +14,186 @@ use Rattle.syntax.specs.declared.grammar.Rule.TheVariants as R
 
 -- whether a part can be no tokens at all
 abbrev pub nullable : Part → Bool
-nullable P.Program = false
 nullable P.Declarations = true
-nullable P.ConstDecl = false
-nullable P.Literal = false
-nullable P.VarDecl = false
 nullable P.Names = true
-nullable P.ClassDecl = false
 nullable P.VarDecls = true
-nullable P.Type = false
 nullable P.Brackets = true
 nullable P.Methods = true
-nullable P.MethodDecl = false
-nullable P.ReturnType = false
 nullable P.Parameters = true
 nullable P.MoreParameters = true
-nullable P.Parameter = false
-nullable P.Block = false
 nullable P.Statements = true
-nullable P.Statement = false
-nullable P.Action = false
 nullable P.Else = true
 nullable P.ReturnValue = true
-nullable P.PrintEnd = false
 nullable P.Arguments = true
 nullable P.MoreArguments = true
-nullable P.Condition = false
 nullable P.OrTerms = true
-nullable P.CondTerm = false
 nullable P.AndFacts = true
-nullable P.CondFact = false
-nullable P.Relation = false
-nullable P.Expr = false
 nullable P.Sums = true
-nullable P.Term = false
 nullable P.Products = true
-nullable P.Factor = false
 nullable P.Call = true
 nullable P.Length = true
-nullable P.Designator = false
 nullable P.Selectors = true
+nullable p = false
 
--- the kinds of tokens that a part can begin with
-abbrev pub begins : Part → List ℕ
-begins P.Program = 4 ∷ []
-begins P.Declarations = 1 ∷ 5 ∷ 14 ∷ []
-begins P.ConstDecl = 14 ∷ []
-begins P.Literal = 2 ∷ 3 ∷ []
-begins P.VarDecl = 1 ∷ []
-begins P.Names = 39 ∷ []
-begins P.ClassDecl = 5 ∷ []
-begins P.VarDecls = 1 ∷ []
-begins P.Type = 1 ∷ []
-begins P.Brackets = 33 ∷ []
-begins P.Methods = 1 ∷ 13 ∷ []
-begins P.MethodDecl = 1 ∷ 13 ∷ []
-begins P.ReturnType = 1 ∷ 13 ∷ []
-begins P.Parameters = 1 ∷ []
-begins P.MoreParameters = 39 ∷ []
-begins P.Parameter = 1 ∷ []
-begins P.Block = 35 ∷ []
-begins P.Statements = 1 ∷ 6 ∷ 8 ∷ 9 ∷ 10 ∷ 11 ∷ 12 ∷ 35 ∷ 38 ∷ []
-begins P.Statement = 1 ∷ 6 ∷ 8 ∷ 9 ∷ 10 ∷ 11 ∷ 12 ∷ 35 ∷ 38 ∷ []
-begins P.Action = 21 ∷ 22 ∷ 31 ∷ 37 ∷ []
-begins P.Else = 7 ∷ []
-begins P.ReturnValue = 1 ∷ 2 ∷ 3 ∷ 15 ∷ 17 ∷ 31 ∷ []
-begins P.PrintEnd = 32 ∷ 39 ∷ []
-begins P.Arguments = 1 ∷ 2 ∷ 3 ∷ 15 ∷ 17 ∷ 31 ∷ []
-begins P.MoreArguments = 39 ∷ []
-begins P.Condition = 1 ∷ 2 ∷ 3 ∷ 15 ∷ 17 ∷ 31 ∷ []
-begins P.OrTerms = 30 ∷ []
-begins P.CondTerm = 1 ∷ 2 ∷ 3 ∷ 15 ∷ 17 ∷ 31 ∷ []
-begins P.AndFacts = 29 ∷ []
-begins P.CondFact = 1 ∷ 2 ∷ 3 ∷ 15 ∷ 17 ∷ 31 ∷ []
-begins P.Relation = 23 ∷ 24 ∷ 25 ∷ 26 ∷ 27 ∷ 28 ∷ []
-begins P.Expr = 1 ∷ 2 ∷ 3 ∷ 15 ∷ 17 ∷ 31 ∷ []
-begins P.Sums = 16 ∷ 17 ∷ []
-begins P.Term = 1 ∷ 2 ∷ 3 ∷ 15 ∷ 31 ∷ []
-begins P.Products = 18 ∷ 19 ∷ 20 ∷ []
-begins P.Factor = 1 ∷ 2 ∷ 3 ∷ 15 ∷ 31 ∷ []
-begins P.Call = 31 ∷ []
-begins P.Length = 33 ∷ []
-begins P.Designator = 1 ∷ []
-begins P.Selectors = 33 ∷ 40 ∷ []
+-- the terminals, as what comes next; end where no token is left
+abbrev end : Option Terminal
+end = None
 
--- the kinds of tokens that can come behind a part, 0 for the end
-abbrev pub follows : Part → List ℕ
-follows P.Program = 0 ∷ []
-follows P.Declarations = 35 ∷ []
-follows P.ConstDecl = 1 ∷ 5 ∷ 14 ∷ 35 ∷ []
-follows P.Literal = 38 ∷ []
-follows P.VarDecl = 1 ∷ 5 ∷ 14 ∷ 35 ∷ 36 ∷ []
-follows P.Names = 38 ∷ []
-follows P.ClassDecl = 1 ∷ 5 ∷ 14 ∷ 35 ∷ []
-follows P.VarDecls = 35 ∷ 36 ∷ []
-follows P.Type = 1 ∷ []
-follows P.Brackets = 1 ∷ []
-follows P.Methods = 36 ∷ []
-follows P.MethodDecl = 1 ∷ 13 ∷ 36 ∷ []
-follows P.ReturnType = 1 ∷ []
-follows P.Parameters = 32 ∷ []
-follows P.MoreParameters = 32 ∷ []
-follows P.Parameter = 32 ∷ 39 ∷ []
-follows P.Block = 1 ∷ 6 ∷ 7 ∷ 8 ∷ 9 ∷ 10 ∷ 11 ∷ 12 ∷ 13 ∷ 35 ∷ 36 ∷ 38 ∷ []
-follows P.Statements = 36 ∷ []
-follows P.Statement = 1 ∷ 6 ∷ 7 ∷ 8 ∷ 9 ∷ 10 ∷ 11 ∷ 12 ∷ 35 ∷ 36 ∷ 38 ∷ []
-follows P.Action = 1 ∷ 6 ∷ 7 ∷ 8 ∷ 9 ∷ 10 ∷ 11 ∷ 12 ∷ 35 ∷ 36 ∷ 38 ∷ []
-follows P.Else = 1 ∷ 6 ∷ 7 ∷ 8 ∷ 9 ∷ 10 ∷ 11 ∷ 12 ∷ 35 ∷ 36 ∷ 38 ∷ []
-follows P.ReturnValue = 38 ∷ []
-follows P.PrintEnd = 1 ∷ 6 ∷ 7 ∷ 8 ∷ 9 ∷ 10 ∷ 11 ∷ 12 ∷ 35 ∷ 36 ∷ 38 ∷ []
-follows P.Arguments = 32 ∷ []
-follows P.MoreArguments = 32 ∷ []
-follows P.Condition = 32 ∷ []
-follows P.OrTerms = 32 ∷ []
-follows P.CondTerm = 30 ∷ 32 ∷ []
-follows P.AndFacts = 30 ∷ 32 ∷ []
-follows P.CondFact = 29 ∷ 30 ∷ 32 ∷ []
-follows P.Relation = 29 ∷ 30 ∷ 32 ∷ []
-follows P.Expr = 23 ∷ 24 ∷ 25 ∷ 26 ∷ 27 ∷ 28 ∷ 29 ∷ 30 ∷ 32 ∷ 34 ∷ 38 ∷ 39 ∷ []
-follows P.Sums = 23 ∷ 24 ∷ 25 ∷ 26 ∷ 27 ∷ 28 ∷ 29 ∷ 30 ∷ 32 ∷ 34 ∷ 38 ∷ 39 ∷ []
-follows P.Term = 16 ∷ 17 ∷ 23 ∷ 24 ∷ 25 ∷ 26 ∷ 27 ∷ 28 ∷ 29 ∷ 30 ∷ 32 ∷ 34 ∷ 38 ∷ 39 ∷ []
-follows P.Products = 16 ∷ 17 ∷ 23 ∷ 24 ∷ 25 ∷ 26 ∷ 27 ∷ 28 ∷ 29 ∷ 30 ∷ 32 ∷ 34 ∷ 38 ∷ 39 ∷ []
-follows P.Factor = 16 ∷ 17 ∷ 18 ∷ 19 ∷ 20 ∷ 23 ∷ 24 ∷ 25 ∷ 26 ∷ 27 ∷ 28 ∷ 29 ∷ 30 ∷ 32 ∷ 34 ∷ 38 ∷ 39 ∷ []
-follows P.Call = 16 ∷ 17 ∷ 18 ∷ 19 ∷ 20 ∷ 23 ∷ 24 ∷ 25 ∷ 26 ∷ 27 ∷ 28 ∷ 29 ∷ 30 ∷ 32 ∷ 34 ∷ 38 ∷ 39 ∷ []
-follows P.Length = 16 ∷ 17 ∷ 18 ∷ 19 ∷ 20 ∷ 23 ∷ 24 ∷ 25 ∷ 26 ∷ 27 ∷ 28 ∷ 29 ∷ 30 ∷ 32 ∷ 34 ∷ 38 ∷ 39 ∷ []
-follows P.Designator = 16 ∷ 17 ∷ 18 ∷ 19 ∷ 20 ∷ 21 ∷ 22 ∷ 23 ∷ 24 ∷ 25 ∷ 26 ∷ 27 ∷ 28 ∷ 29 ∷ 30 ∷ 31 ∷ 32 ∷ 34 ∷ 37 ∷ 38 ∷ 39 ∷ []
-follows P.Selectors = 16 ∷ 17 ∷ 18 ∷ 19 ∷ 20 ∷ 21 ∷ 22 ∷ 23 ∷ 24 ∷ 25 ∷ 26 ∷ 27 ∷ 28 ∷ 29 ∷ 30 ∷ 31 ∷ 32 ∷ 34 ∷ 37 ∷ 38 ∷ 39 ∷ []
+abbrev name : Option Terminal
+name = Some T.Name
+
+abbrev number : Option Terminal
+number = Some T.Number
+
+abbrev character : Option Terminal
+character = Some T.Character
+
+abbrev word : Keyword → Option Terminal
+word w = Some (T.Word w)
+
+abbrev sign : Operator → Option Terminal
+sign g = Some (T.Sign g)
+
+-- what a statement begins with
+abbrev statement : List (Option Terminal)
+statement = name ∷ word W.If ∷ word W.While ∷ word W.Read ∷ word W.Print ∷ word W.Return ∷ word W.Break ∷ sign S.OpenBrace ∷ sign S.Semicolon ∷ []
+
+-- what a term begins with
+abbrev term : List (Option Terminal)
+term = name ∷ number ∷ character ∷ word W.New ∷ sign S.OpenParen ∷ []
+
+-- what an expression begins with
+abbrev expr : List (Option Terminal)
+expr = sign S.Minus ∷ term
+
+-- what can come behind a declaration
+abbrev declaration : List (Option Terminal)
+declaration = name ∷ word W.Class ∷ word W.Final ∷ sign S.OpenBrace ∷ []
+
+-- what can come behind a statement
+abbrev after_statement : List (Option Terminal)
+after_statement = word W.Else ∷ sign S.CloseBrace ∷ statement
+
+-- what can come behind an expression
+abbrev after_expr : List (Option Terminal)
+after_expr = sign S.EqualEqual ∷ sign S.NotEqual ∷ sign S.Greater ∷ sign S.GreaterEqual ∷ sign S.Less ∷ sign S.LessEqual ∷ sign S.AndAnd ∷ sign S.OrOr ∷ sign S.CloseParen ∷ sign S.CloseBracket ∷ sign S.Semicolon ∷ sign S.Comma ∷ []
+
+-- what can come behind a term
+abbrev after_term : List (Option Terminal)
+after_term = sign S.Plus ∷ sign S.Minus ∷ after_expr
+
+-- what can come behind a factor
+abbrev after_factor : List (Option Terminal)
+after_factor = sign S.Star ∷ sign S.Slash ∷ sign S.Percent ∷ after_term
+
+-- what can come behind a designator
+abbrev after_designator : List (Option Terminal)
+after_designator = sign S.PlusPlus ∷ sign S.MinusMinus ∷ sign S.OpenParen ∷ sign S.Assign ∷ after_factor
+
+-- the terminals that a part can begin with
+abbrev pub begins : Part → List (Option Terminal)
+begins P.Program = word W.Program ∷ []
+begins P.Declarations = name ∷ word W.Class ∷ word W.Final ∷ []
+begins P.ConstDecl = word W.Final ∷ []
+begins P.Literal = number ∷ character ∷ []
+begins P.VarDecl = name ∷ []
+begins P.Names = sign S.Comma ∷ []
+begins P.ClassDecl = word W.Class ∷ []
+begins P.VarDecls = name ∷ []
+begins P.Type = name ∷ []
+begins P.Brackets = sign S.OpenBracket ∷ []
+begins P.Methods = name ∷ word W.Void ∷ []
+begins P.MethodDecl = name ∷ word W.Void ∷ []
+begins P.ReturnType = name ∷ word W.Void ∷ []
+begins P.Parameters = name ∷ []
+begins P.MoreParameters = sign S.Comma ∷ []
+begins P.Parameter = name ∷ []
+begins P.Block = sign S.OpenBrace ∷ []
+begins P.Statements = statement
+begins P.Statement = statement
+begins P.Action = sign S.PlusPlus ∷ sign S.MinusMinus ∷ sign S.OpenParen ∷ sign S.Assign ∷ []
+begins P.Else = word W.Else ∷ []
+begins P.ReturnValue = expr
+begins P.PrintEnd = sign S.CloseParen ∷ sign S.Comma ∷ []
+begins P.Arguments = expr
+begins P.MoreArguments = sign S.Comma ∷ []
+begins P.Condition = expr
+begins P.OrTerms = sign S.OrOr ∷ []
+begins P.CondTerm = expr
+begins P.AndFacts = sign S.AndAnd ∷ []
+begins P.CondFact = expr
+begins P.Relation = sign S.EqualEqual ∷ sign S.NotEqual ∷ sign S.Greater ∷ sign S.GreaterEqual ∷ sign S.Less ∷ sign S.LessEqual ∷ []
+begins P.Expr = expr
+begins P.Sums = sign S.Plus ∷ sign S.Minus ∷ []
+begins P.Term = term
+begins P.Products = sign S.Star ∷ sign S.Slash ∷ sign S.Percent ∷ []
+begins P.Factor = term
+begins P.Call = sign S.OpenParen ∷ []
+begins P.Length = sign S.OpenBracket ∷ []
+begins P.Designator = name ∷ []
+begins P.Selectors = sign S.OpenBracket ∷ sign S.Dot ∷ []
+
+-- the terminals that can come behind a part
+abbrev pub follows : Part → List (Option Terminal)
+follows P.Program = end ∷ []
+follows P.Declarations = sign S.OpenBrace ∷ []
+follows P.ConstDecl = declaration
+follows P.Literal = sign S.Semicolon ∷ []
+follows P.VarDecl = sign S.CloseBrace ∷ declaration
+follows P.Names = sign S.Semicolon ∷ []
+follows P.ClassDecl = declaration
+follows P.VarDecls = sign S.OpenBrace ∷ sign S.CloseBrace ∷ []
+follows P.Type = name ∷ []
+follows P.Brackets = name ∷ []
+follows P.Methods = sign S.CloseBrace ∷ []
+follows P.MethodDecl = name ∷ word W.Void ∷ sign S.CloseBrace ∷ []
+follows P.ReturnType = name ∷ []
+follows P.Parameters = sign S.CloseParen ∷ []
+follows P.MoreParameters = sign S.CloseParen ∷ []
+follows P.Parameter = sign S.CloseParen ∷ sign S.Comma ∷ []
+follows P.Block = word W.Void ∷ after_statement
+follows P.Statements = sign S.CloseBrace ∷ []
+follows P.Statement = after_statement
+follows P.Action = after_statement
+follows P.Else = after_statement
+follows P.ReturnValue = sign S.Semicolon ∷ []
+follows P.PrintEnd = after_statement
+follows P.Arguments = sign S.CloseParen ∷ []
+follows P.MoreArguments = sign S.CloseParen ∷ []
+follows P.Condition = sign S.CloseParen ∷ []
+follows P.OrTerms = sign S.CloseParen ∷ []
+follows P.CondTerm = sign S.OrOr ∷ sign S.CloseParen ∷ []
+follows P.AndFacts = sign S.OrOr ∷ sign S.CloseParen ∷ []
+follows P.CondFact = sign S.AndAnd ∷ sign S.OrOr ∷ sign S.CloseParen ∷ []
+follows P.Relation = sign S.AndAnd ∷ sign S.OrOr ∷ sign S.CloseParen ∷ []
+follows P.Expr = after_expr
+follows P.Sums = after_expr
+follows P.Term = after_term
+follows P.Products = after_term
+follows P.Factor = after_factor
+follows P.Call = after_factor
+follows P.Length = after_factor
+follows P.Designator = after_designator
+follows P.Selectors = after_designator
 
 -- how far parts at one depth stand inside one another: a part of a rule ranks below the rule's left side, its tail not above it
 abbrev pub rank : Part → ℕ
 rank P.Program = 4
 rank P.Declarations = 3
 rank P.ConstDecl = 2
-rank P.Literal = 0
 rank P.VarDecl = 2
-rank P.Names = 0
-rank P.ClassDecl = 0
 rank P.VarDecls = 3
 rank P.Type = 1
-rank P.Brackets = 0
 rank P.Methods = 5
 rank P.MethodDecl = 4
 rank P.ReturnType = 2
 rank P.Parameters = 3
 rank P.MoreParameters = 3
 rank P.Parameter = 2
-rank P.Block = 0
 rank P.Statements = 6
 rank P.Statement = 5
 rank P.Action = 4
-rank P.Else = 0
 rank P.ReturnValue = 4
-rank P.PrintEnd = 0
 rank P.Arguments = 4
 rank P.MoreArguments = 4
 rank P.Condition = 6
@@ -173,10 +207,7 @@ rank P.Sums = 3
 rank P.Term = 2
 rank P.Products = 2
 rank P.Factor = 1
-rank P.Call = 0
-rank P.Length = 0
-rank P.Designator = 0
-rank P.Selectors = 0
+rank p = 0
 
 -- a rule by which a part can always be completed
 abbrev pub shortest : Part → Rule
@@ -224,227 +255,20 @@ shortest P.Selectors = R.NoSelector
 -- how far parts stand inside one another when each goes on by that rule
 abbrev pub tall : Part → ℕ
 tall P.Program = 1
-tall P.Declarations = 0
 tall P.ConstDecl = 2
-tall P.Literal = 0
 tall P.VarDecl = 2
-tall P.Names = 0
 tall P.ClassDecl = 1
-tall P.VarDecls = 0
 tall P.Type = 1
-tall P.Brackets = 0
-tall P.Methods = 0
 tall P.MethodDecl = 2
-tall P.ReturnType = 0
-tall P.Parameters = 0
-tall P.MoreParameters = 0
 tall P.Parameter = 2
 tall P.Block = 1
-tall P.Statements = 0
-tall P.Statement = 0
-tall P.Action = 0
 tall P.Else = 1
-tall P.ReturnValue = 0
-tall P.PrintEnd = 0
-tall P.Arguments = 0
-tall P.MoreArguments = 0
 tall P.Condition = 6
-tall P.OrTerms = 0
 tall P.CondTerm = 5
-tall P.AndFacts = 0
 tall P.CondFact = 4
 tall P.Relation = 3
 tall P.Expr = 2
-tall P.Sums = 0
 tall P.Term = 1
-tall P.Products = 0
-tall P.Factor = 0
 tall P.Call = 1
-tall P.Length = 0
 tall P.Designator = 1
-tall P.Selectors = 0
-
-abbrev pub rules : List Rule
-rules = R.Program ∷ R.Constants ∷ R.Variables ∷ R.Classes ∷ R.NoDeclaration ∷ R.ConstDecl ∷ R.NumberLiteral ∷ R.CharacterLiteral ∷ R.VarDecl ∷ R.MoreNames ∷ R.NoName ∷ R.ClassDecl ∷ R.MoreVarDecls ∷ R.NoVarDecl ∷ R.Type ∷ R.ArrayBrackets ∷ R.NoBrackets ∷ R.MoreMethods ∷ R.NoMethod ∷ R.MethodDecl ∷ R.Function ∷ R.Void ∷ R.FirstParameter ∷ R.NoParameter ∷ R.NextParameter ∷ R.LastParameter ∷ R.Parameter ∷ R.Block ∷ R.MoreStatements ∷ R.NoStatement ∷ R.Action ∷ R.If ∷ R.While ∷ R.Break ∷ R.Return ∷ R.Read ∷ R.Print ∷ R.Nested ∷ R.Empty ∷ R.Assign ∷ R.CallStatement ∷ R.Increment ∷ R.Decrement ∷ R.Else ∷ R.NoElse ∷ R.Value ∷ R.NoValue ∷ R.Width ∷ R.NoWidth ∷ R.FirstArgument ∷ R.NoArgument ∷ R.NextArgument ∷ R.LastArgument ∷ R.Condition ∷ R.Or ∷ R.NoOr ∷ R.CondTerm ∷ R.And ∷ R.NoAnd ∷ R.CondFact ∷ R.Equal ∷ R.NotEqual ∷ R.Greater ∷ R.GreaterEqual ∷ R.Less ∷ R.LessEqual ∷ R.Negative ∷ R.Positive ∷ R.Add ∷ R.Subtract ∷ R.NoSum ∷ R.Term ∷ R.Multiply ∷ R.Divide ∷ R.Remainder ∷ R.NoProduct ∷ R.Variable ∷ R.Number ∷ R.Character ∷ R.New ∷ R.Bracketed ∷ R.Call ∷ R.NoCall ∷ R.Length ∷ R.NoLength ∷ R.Designator ∷ R.Field ∷ R.Element ∷ R.NoSelector ∷ []
-
-abbrev pub rule_number : Rule → ℕ
-rule_number R.Program = 0
-rule_number R.Constants = 1
-rule_number R.Variables = 2
-rule_number R.Classes = 3
-rule_number R.NoDeclaration = 4
-rule_number R.ConstDecl = 5
-rule_number R.NumberLiteral = 6
-rule_number R.CharacterLiteral = 7
-rule_number R.VarDecl = 8
-rule_number R.MoreNames = 9
-rule_number R.NoName = 10
-rule_number R.ClassDecl = 11
-rule_number R.MoreVarDecls = 12
-rule_number R.NoVarDecl = 13
-rule_number R.Type = 14
-rule_number R.ArrayBrackets = 15
-rule_number R.NoBrackets = 16
-rule_number R.MoreMethods = 17
-rule_number R.NoMethod = 18
-rule_number R.MethodDecl = 19
-rule_number R.Function = 20
-rule_number R.Void = 21
-rule_number R.FirstParameter = 22
-rule_number R.NoParameter = 23
-rule_number R.NextParameter = 24
-rule_number R.LastParameter = 25
-rule_number R.Parameter = 26
-rule_number R.Block = 27
-rule_number R.MoreStatements = 28
-rule_number R.NoStatement = 29
-rule_number R.Action = 30
-rule_number R.If = 31
-rule_number R.While = 32
-rule_number R.Break = 33
-rule_number R.Return = 34
-rule_number R.Read = 35
-rule_number R.Print = 36
-rule_number R.Nested = 37
-rule_number R.Empty = 38
-rule_number R.Assign = 39
-rule_number R.CallStatement = 40
-rule_number R.Increment = 41
-rule_number R.Decrement = 42
-rule_number R.Else = 43
-rule_number R.NoElse = 44
-rule_number R.Value = 45
-rule_number R.NoValue = 46
-rule_number R.Width = 47
-rule_number R.NoWidth = 48
-rule_number R.FirstArgument = 49
-rule_number R.NoArgument = 50
-rule_number R.NextArgument = 51
-rule_number R.LastArgument = 52
-rule_number R.Condition = 53
-rule_number R.Or = 54
-rule_number R.NoOr = 55
-rule_number R.CondTerm = 56
-rule_number R.And = 57
-rule_number R.NoAnd = 58
-rule_number R.CondFact = 59
-rule_number R.Equal = 60
-rule_number R.NotEqual = 61
-rule_number R.Greater = 62
-rule_number R.GreaterEqual = 63
-rule_number R.Less = 64
-rule_number R.LessEqual = 65
-rule_number R.Negative = 66
-rule_number R.Positive = 67
-rule_number R.Add = 68
-rule_number R.Subtract = 69
-rule_number R.NoSum = 70
-rule_number R.Term = 71
-rule_number R.Multiply = 72
-rule_number R.Divide = 73
-rule_number R.Remainder = 74
-rule_number R.NoProduct = 75
-rule_number R.Variable = 76
-rule_number R.Number = 77
-rule_number R.Character = 78
-rule_number R.New = 79
-rule_number R.Bracketed = 80
-rule_number R.Call = 81
-rule_number R.NoCall = 82
-rule_number R.Length = 83
-rule_number R.NoLength = 84
-rule_number R.Designator = 85
-rule_number R.Field = 86
-rule_number R.Element = 87
-rule_number R.NoSelector = 88
-
-pub numbered : (r : Rule) → get_or rules (rule_number r) R.Program ≡ r
-numbered R.Program = refl
-numbered R.Constants = refl
-numbered R.Variables = refl
-numbered R.Classes = refl
-numbered R.NoDeclaration = refl
-numbered R.ConstDecl = refl
-numbered R.NumberLiteral = refl
-numbered R.CharacterLiteral = refl
-numbered R.VarDecl = refl
-numbered R.MoreNames = refl
-numbered R.NoName = refl
-numbered R.ClassDecl = refl
-numbered R.MoreVarDecls = refl
-numbered R.NoVarDecl = refl
-numbered R.Type = refl
-numbered R.ArrayBrackets = refl
-numbered R.NoBrackets = refl
-numbered R.MoreMethods = refl
-numbered R.NoMethod = refl
-numbered R.MethodDecl = refl
-numbered R.Function = refl
-numbered R.Void = refl
-numbered R.FirstParameter = refl
-numbered R.NoParameter = refl
-numbered R.NextParameter = refl
-numbered R.LastParameter = refl
-numbered R.Parameter = refl
-numbered R.Block = refl
-numbered R.MoreStatements = refl
-numbered R.NoStatement = refl
-numbered R.Action = refl
-numbered R.If = refl
-numbered R.While = refl
-numbered R.Break = refl
-numbered R.Return = refl
-numbered R.Read = refl
-numbered R.Print = refl
-numbered R.Nested = refl
-numbered R.Empty = refl
-numbered R.Assign = refl
-numbered R.CallStatement = refl
-numbered R.Increment = refl
-numbered R.Decrement = refl
-numbered R.Else = refl
-numbered R.NoElse = refl
-numbered R.Value = refl
-numbered R.NoValue = refl
-numbered R.Width = refl
-numbered R.NoWidth = refl
-numbered R.FirstArgument = refl
-numbered R.NoArgument = refl
-numbered R.NextArgument = refl
-numbered R.LastArgument = refl
-numbered R.Condition = refl
-numbered R.Or = refl
-numbered R.NoOr = refl
-numbered R.CondTerm = refl
-numbered R.And = refl
-numbered R.NoAnd = refl
-numbered R.CondFact = refl
-numbered R.Equal = refl
-numbered R.NotEqual = refl
-numbered R.Greater = refl
-numbered R.GreaterEqual = refl
-numbered R.Less = refl
-numbered R.LessEqual = refl
-numbered R.Negative = refl
-numbered R.Positive = refl
-numbered R.Add = refl
-numbered R.Subtract = refl
-numbered R.NoSum = refl
-numbered R.Term = refl
-numbered R.Multiply = refl
-numbered R.Divide = refl
-numbered R.Remainder = refl
-numbered R.NoProduct = refl
-numbered R.Variable = refl
-numbered R.Number = refl
-numbered R.Character = refl
-numbered R.New = refl
-numbered R.Bracketed = refl
-numbered R.Call = refl
-numbered R.NoCall = refl
-numbered R.Length = refl
-numbered R.NoLength = refl
-numbered R.Designator = refl
-numbered R.Field = refl
-numbered R.Element = refl
-numbered R.NoSelector = refl
+tall p = 0

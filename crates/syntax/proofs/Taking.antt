@@ -1,17 +1,22 @@
 -- The next token is taken from those still to come.
-use Rattle.std.proofs.Common.{◌≡◌, ℕ, ◌+◌, ◌-◌, ◌<◌, ◌≤◌, true, false, List, [], ◌∷◌, length, drop, Ok, Err, Result, IsErr, sym, refl, ap, ◌∙◌, subst, arith}
-use Rattle.std.proofs.lemmas.Bool.Decides.{nat_tests}
+use Rattle.std.proofs.Common.{◌≡◌, ◌≢◌, ℕ, ◌+◌, ◌-◌, ◌<◌, List, [], ◌∷◌, length, drop, Some, Ok, Err, Result, IsErr, MatchResult, sym, refl, ap, ◌∙◌, subst, arith, None, Option}
 use Rattle.lexer.specs.Tokens.{Lexeme, Cut, nothing, a_gap, a_token}
 use Rattle.lexer.specs.Scan.{Next as LexerNext, then_token, then_end, NoNext, then_bad}
+use Rattle.lexer.specs.Stream.{Step, Yields}
+use Rattle.std.specs.Option.{option_transpose}
 use Rattle.lexer.specs.declared.token.Kind.{Kind}
 use Rattle.lexer.specs.declared.token.Kind.TheVariants.{End}
 use Rattle.lexer.specs.declared.token.Token.{Token}
-use Rattle.lexer.proofs.Fronts.{gap_one, lexeme_one, gap_or_lexeme}
+use Rattle.lexer.specs.declared.Refusal.{Refusal}
+use Rattle.lexer.specs.declared.Tokens.{Tokens}
+use Rattle.lexer.specs.declared.Reason.{Reason as Lexical}
+use Rattle.lexer.proofs.Fronts.{gap_one, lexeme_one, gap_or_lexeme, lexeme_no_end}
 use Rattle.lexer.proofs.Cuts.{gap_inside, lexeme_inside, cut_onward, cut_within, cut_one, cut_stops}
+use Rattle.syntax.specs.declared.grammar.Terminal.{Terminal}
 use Rattle.syntax.specs.declared.parser.Parser.{Parser}
+use Rattle.syntax.specs.declared.refusal.Reason.{Reason}
 use Rattle.syntax.specs.declared.refusal.Reason.TheVariants.{Grammar, Depth}
-use Rattle.syntax.specs.declared.refusal.Refusal.{Refusal}
-use Rattle.syntax.specs.Sorts.{sort, alike}
+use Rattle.syntax.specs.Terminals.{terminal_of}
 use Rattle.syntax.specs.States.{Next, last, more, Coming, NotTaken, other, deep, Taken}
 
 -- a token that stands after gaps is the first of those that the text has from there on
@@ -25,62 +30,80 @@ first_cut {text} {p} {q} {r} {n} {k} (a_gap {n = m} g c) x h nothing = absurd (o
 first_cut {text} {p} {q} {r} {n} {k} {us} (a_gap g c) x h (a_gap i d) = first_cut c x h (subst (λ m. Cut text (p + m) r us) (gap_one i g) d)
 first_cut (a_gap g c) x h (a_token y d) = absurd (gap_or_lexeme g y)
 
--- what the lexer answers is the next of the tokens that the text has from there on
-pub next_of : {text : List ℕ} {at : ℕ} {t : Token} {ts : List Token} → at ≤ length text → LexerNext text at t → Cut text at (length text) ts → Next text t ts
-next_of {text} h (then_token {p = p} {n = n} {k = k} c x) d =
+-- a token that the lexer finds is the first of those that the text has from there on
+next_token : {text : List ℕ} {at : ℕ} {t : Token} {us : List Token} → LexerNext text at t → t.kind ≢ End → Cut text at (length text) us → Next text (t.place + t.len) (Some t) us
+next_token {text} (then_token {p = p} {n = n} {k = k} c x) not_end d =
     let f = first_cut c x refl d in
-    subst (Next text (record { kind = k; place = p; len = n })) (sym f.1) (more f.2)
-next_of {text} {at} {ts = ts} h (then_end {p = p} c over) d =
-    let none : [] ≡ ts = cut_one d c (omega (arith, cut_within c h)) in
-    subst (Next text (record { kind = End; place = p; len = 0 })) none (last refl)
+    subst (Next text (p + n) (Some (record { kind = k; place = p; len = n }))) (sym f.1) (more f.2)
+next_token (then_end c over) not_end d = absurd (not_end refl)
 
--- the lexer has an answer where the text has tokens
-pub some_next : {text : List ℕ} {at number place : ℕ} {ts : List Token} → NoNext text at number place → Cut text at (length text) ts → ⊥
-some_next (then_bad c b) d = cut_stops c b refl d
+-- where it finds the end, the text has none
+next_end : {text : List ℕ} {at : ℕ} {t : Token} {us : List Token} → LexerNext text at t → t.kind ≡ End → Cut text at (length text) us → us ≡ []
+next_end (then_token c x) e d = absurd (lexeme_no_end x e)
+next_end (then_end c over) e d = sym (cut_one d c (omega (arith, cut_within c (cut_onward d))))
+
+-- one step of the lexer's iterator, with the refusal first
+next_of : {text : List ℕ} {at after : ℕ} {us : List Token} {o : Option Token} (item : Option (Result Token (Refusal Lexical))) → Step text at item after → Cut text at (length text) us → option_transpose item ≡ Ok o → Next text after o us
+next_of {o = o} None s d e = let same : o ≡ None = cc in rw (same, next_end s.0.1 s.0.2 d) last
+next_of {o = o} (Some (Ok t)) s d e = let same : o ≡ Some t = cc in rw (same, s.2) (next_token s.0 s.1 d)
+next_of (Some (Err x)) s d e = absurd (cc)
+
+-- it gives no refusal where the text has tokens
+refused_not : {text : List ℕ} {at number place : ℕ} {us : List Token} → NoNext text at number place → Cut text at (length text) us → ⊥
+refused_not (then_bad c b) d = cut_stops c b refl d
+
+never_refused : {text : List ℕ} {at : ℕ} {us : List Token} {x : Refusal Lexical} (after : ℕ) (item : Option (Result Token (Refusal Lexical))) → Step text at item after → Cut text at (length text) us → option_transpose item ≡ Err x → ⊥
+never_refused after None s d e = cc
+never_refused after (Some (Ok t)) s d e = cc
+never_refused after (Some (Err y)) s d e = refused_not s.0 d
 
 -- the next token is the first of those still to come, and the others follow it
-pub first_is : {text : List ℕ} {a t : Token} {ts : List Token} → Next text a (t ∷ ts) → (a ≡ t) × Cut text (a.place + a.len) (length text) ts
-first_is (more c) = (refl, c)
+first_is : {text : List ℕ} {at : ℕ} {o : Option Token} {t : Token} {ts : List Token} → Next text at o ts → o ≡ Some t → (us : List Token) × (ts ≡ t ∷ us) × Cut text at (length text) us
+first_is last e = absurd (cc)
+first_is (more {ts = us} c) e = (us, cc, c)
+
+-- where there is none, none is still to come
+none_is : {text : List ℕ} {at : ℕ} {o : Option Token} {ts : List Token} → Next text at o ts → o ≡ None → ts ≡ []
+none_is last e = refl
+none_is (more c) e = absurd (cc)
 
 -- where no token is left, none is taken
-pub nothing_left : {p : Parser} {kind : Kind} {depth : ℕ} (ts : List Token) → 0 < sort kind → p.left ≡ 0 → Coming p ts → NotTaken p.text.now kind depth (record { reason = Grammar; place = length p.text.now }) ts
-nothing_left [] h e c = other (grind (arith, nat_tests))
-nothing_left (t ∷ ts) h e c = absurd (omega (arith, c.many))
+pub nothing_left : {p : Parser} {terminal : Terminal} {depth : ℕ} (ts : List Token) → p.ahead ≡ None → Coming p ts → NotTaken p.text.now terminal depth (record { reason = Grammar; place = length p.text.now }) ts
+nothing_left {p} {terminal} {depth} ts e c = subst (NotTaken p.text.now terminal depth (record { reason = Grammar; place = length p.text.now })) (sym (none_is c.next e)) (other (λ x. cc))
 
--- a token of another kind is not taken
-pub other_kind : {p : Parser} {kind : Kind} {depth : ℕ} (ts : List Token) → (p.left ≡ 0 → ⊥) → alike kind p.ahead.kind ≡ false → Coming p ts → NotTaken p.text.now kind depth (record { reason = Grammar; place = p.ahead.place }) ts
-other_kind [] h e c = absurd (h c.many)
-other_kind {p} {kind} {depth} (t ∷ ts) h e c =
-    let same = (first_is c.next).0 in
-    subst (λ (u : Token). NotTaken p.text.now kind depth (record { reason = Grammar; place = u.place }) (t ∷ ts)) (sym same) (other (ap (λ (u : Token). alike kind u.kind) (sym same) ∙ e))
+-- another terminal is not taken
+pub other_terminal : {p : Parser} {t : Token} {terminal : Terminal} {depth : ℕ} (ts : List Token) → p.ahead ≡ Some t → terminal_of t.kind ≢ Some terminal → Coming p ts → NotTaken p.text.now terminal depth (record { reason = Grammar; place = t.place }) ts
+other_terminal {p} {t} {terminal} {depth} ts e n c = subst (NotTaken p.text.now terminal depth (record { reason = Grammar; place = t.place })) (sym (first_is c.next e).1) (other n)
 
 -- nor is one that stands too deep
-pub stands_deep : {p : Parser} {kind : Kind} {depth : ℕ} (ts : List Token) → (p.left ≡ 0 → ⊥) → alike kind p.ahead.kind ≡ true → 64 < depth → Coming p ts → NotTaken p.text.now kind depth (record { reason = Depth; place = p.ahead.place }) ts
-stands_deep [] h e d c = absurd (h c.many)
-stands_deep {p} {kind} {depth} (t ∷ ts) h e d c =
-    let same = (first_is c.next).0 in
-    subst (λ (u : Token). NotTaken p.text.now kind depth (record { reason = Depth; place = u.place }) (t ∷ ts)) (sym same) (deep (ap (λ (u : Token). alike kind u.kind) (sym same) ∙ e) d)
+pub stands_deep : {p : Parser} {t : Token} {terminal : Terminal} {depth : ℕ} (ts : List Token) → p.ahead ≡ Some t → terminal_of t.kind ≡ Some terminal → 64 < depth → Coming p ts → NotTaken p.text.now terminal depth (record { reason = Depth; place = t.place }) ts
+stands_deep {p} {t} {terminal} {depth} ts e f d c = subst (NotTaken p.text.now terminal depth (record { reason = Depth; place = t.place })) (sym (first_is c.next e).1) (deep f d)
 
--- a token is followed by those that the text has from its end on
-pub rest_of : {p : Parser} (ts : List Token) → (p.left ≡ 0 → ⊥) → Coming p ts → (us : List Token) × (ts ≡ p.ahead ∷ us) × (length us + 1 ≡ p.left) × Cut p.text.now (p.ahead.place + p.ahead.len) (length p.text.now) us
-rest_of [] h c = absurd (h c.many)
-rest_of {p} (t ∷ ts) h c =
-    let f = first_is c.next in
-    (ts, ap (λ u. u ∷ ts) (sym f.0), omega (arith, c.many), f.1)
+-- what the lexer answered, where its refusal is told by a reason of the parser
+pub was_refused : (e : Refusal Reason) (Q : Refusal Lexical → Type 0) (r : Result (Option Token) (Refusal Lexical)) → MatchResult r (λ x. Err e ≡ Ok x) Q → (x : Refusal Lexical) × (r ≡ Err x)
+was_refused e Q (Ok t) m = absurd (cc)
+was_refused e Q (Err x) m = (x, refl)
 
--- the lexer answers where a token is followed by others
-pub never_refused : {p : Parser} {at number place : ℕ} (ts : List Token) → (p.left ≡ 0 → ⊥) → at ≡ p.ahead.place + p.ahead.len → NoNext p.text.now at number place → Coming p ts → ⊥
-never_refused {p} ts h e n c =
-    let r = rest_of ts h c in
-    some_next n (subst (λ at. Cut p.text.now at (length p.text.now) r.0) (sym e) r.3)
+-- the next token as an answer of the parser
+abbrev answer : Option Token → Result (Option Token) (Refusal Reason)
+answer o = Ok o
 
--- what follows is still to come
-pub comes : {p : Parser} {t : Token} {at : ℕ} (ts : List Token) → (p.left ≡ 0 → ⊥) → at ≡ p.ahead.place + p.ahead.len → LexerNext p.text.now at t → Coming p ts → (us : List Token) × (ts ≡ p.ahead ∷ us) × Coming (record p { ahead = t; left = p.left - 1 }) us
-comes {p} ts h e n c =
-    let r = rest_of ts h c in
-    let cut = subst (λ at. Cut p.text.now at (length p.text.now) r.0) (sym e) r.3 in
-    (r.0, r.1, record { many = omega (arith, r.2); next = next_of (cut_onward cut) n cut })
+pub was_token : (o : Option Token) (Q : Refusal Lexical → Type 0) (r : Result (Option Token) (Refusal Lexical)) → ((x : Refusal Lexical) → Q x → ⊥) → MatchResult r (λ x. answer o ≡ Ok x) Q → r ≡ Ok o
+was_token o Q (Ok x) none m = cc
+was_token o Q (Err x) none m = absurd (none x m)
 
-pub nothing_taken : {p : Parser} (kind : Kind) (depth : ℕ) (r : Result Token Refusal) → IsErr r → ((ts : List Token) → Coming p ts → ⊥) → Taken p p kind depth r
-nothing_taken kind depth (Ok t) e h = absurd (cc)
-nothing_taken kind depth (Err x) e h = λ ts c. absurd (h ts c)
+-- behind a token that is next the others are still to come
+pub comes : {p : Parser} {t : Token} {new : Tokens} {o : Option Token} {left : ℕ} (item : Option (Result Token (Refusal Lexical))) (ts : List Token) → p.ahead ≡ Some t → Yields p.tokens item new → option_transpose item ≡ Ok o → left ≡ p.left - 1 → Coming p ts → (us : List Token) × (ts ≡ t ∷ us) × Coming (record p { tokens = new; ahead = o; left = left }) us
+comes {p} {new = new} item ts e y told l c =
+    let f = first_is c.next e in
+    let step = subst (λ text. Step text p.tokens.at item new.at) c.same y.0 in
+    (f.0, f.1, record { many = omega (arith, c.many, ap length f.1); same = y.1 ∙ c.same; next = next_of item step f.2 told })
+
+-- and the lexer refuses none of them
+pub not_refused : {p : Parser} {t : Token} {x : Refusal Lexical} (new : Tokens) (item : Option (Result Token (Refusal Lexical))) (ts : List Token) → p.ahead ≡ Some t → Yields p.tokens item new → option_transpose item ≡ Err x → Coming p ts → ⊥
+not_refused {p} new item ts e y told c = never_refused new.at item (subst (λ text. Step text p.tokens.at item new.at) c.same y.0) (first_is c.next e).2 told
+
+-- a refusal is no answer where no token can come next
+pub nothing_taken : {p : Parser} (q : Parser) (terminal : Terminal) (depth : ℕ) (r : Result Token (Refusal Reason)) → IsErr r → ((ts : List Token) → Coming p ts → ⊥) → Taken p q terminal depth r
+nothing_taken q terminal depth (Ok t) e h = absurd (cc)
+nothing_taken q terminal depth (Err x) e h = λ ts c. absurd (h ts c)

@@ -1,5 +1,5 @@
 -- A tree has at most as many nodes as there are tokens.
-use Rattle.std.proofs.Common.{ℕ, ◌+◌, ◌≤◌, List, [], ◌∷◌, length, Some, None, Option, arith}
+use Rattle.std.proofs.Common.{ℕ, ◌+◌, ◌≤◌, List, [], ◌∷◌, length, Some, None, Option, arith, rules}
 use Rattle.lexer.specs.declared.Token.{Token}
 use Rattle.syntax.specs.declared.node.Own.{Own}
 use Rattle.syntax.specs.declared.parser.Nest.{Nest}
@@ -22,6 +22,8 @@ weight (frame is q n o f ∷ s) = sizes f + owed o + weight s
 marked_owed : (role : Role) (t : Token) (n : Nest) (o : Option Own) → owed (marked role t n o) ≤ owed o + 1
 marked_owed A.Plain t n o = omega arith
 marked_owed (A.Own k) t n o = omega arith
+marked_owed A.Literal t n o = search rules
+marked_owed A.Break t n o = omega arith
 marked_owed A.Noted t n None = omega arith
 marked_owed A.Noted t n (Some own) = omega arith
 

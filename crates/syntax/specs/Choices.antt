@@ -1,38 +1,33 @@
 -- The rule that the next token asks for: the one by which a part can go on, if it can go on at all.
-use Rattle.std.specs.Prelude.{cond, List, [], ◌∷◌}
+use Rattle.std.specs.Prelude.{List, [], ◌∷◌, Some, Option}
+use Rattle.std.specs.List.{find}
+use Rattle.std.specs.Option.{option_map, unwrap_or}
 use Rattle.lexer.specs.declared.Keyword.TheVariants as W
 use Rattle.lexer.specs.declared.Operator.TheVariants as S
-use Rattle.lexer.specs.declared.Kind.{Kind}
-use Rattle.syntax.specs.Grammar.{word, sign, name, number, character}
-use Rattle.syntax.specs.Sorts.{alike}
+use Rattle.syntax.specs.Terminals.{same}
 use Rattle.syntax.specs.declared.grammar.Choice.{Choice}
+use Rattle.syntax.specs.declared.grammar.Terminal.{Terminal}
+use Rattle.syntax.specs.declared.grammar.Terminal.TheVariants.{Name as name, Number as number, Character as character, Word as word, Sign as sign}
 use Rattle.syntax.specs.declared.grammar.Part.{Part}
 use Rattle.syntax.specs.declared.grammar.Part.TheVariants as P
 use Rattle.syntax.specs.declared.grammar.Rule.{Rule}
 use Rattle.syntax.specs.declared.grammar.Rule.TheVariants as R
 
-abbrev pub asks : Kind → Rule → Choice
+-- the terminal asks for the rule
+abbrev pub asks : Terminal → Rule → Choice
 asks k r = record { ahead = k; rule = r }
 
--- which kinds of tokens ask for a rule of their own
+-- which terminals ask for a rule of their own
 abbrev pub choices : Part → List Choice
-choices P.Program = []
 choices P.Declarations = asks (word W.Class) R.Classes ∷ asks (word W.Final) R.Constants ∷ asks (sign S.OpenBrace) R.NoDeclaration ∷ []
-choices P.ConstDecl = []
 choices P.Literal = asks character R.CharacterLiteral ∷ []
-choices P.VarDecl = []
 choices P.Names = asks (sign S.Comma) R.MoreNames ∷ []
-choices P.ClassDecl = []
 choices P.VarDecls = asks name R.MoreVarDecls ∷ []
-choices P.Type = []
 choices P.Brackets = asks (sign S.OpenBracket) R.ArrayBrackets ∷ []
 choices P.Methods = asks (sign S.CloseBrace) R.NoMethod ∷ []
-choices P.MethodDecl = []
 choices P.ReturnType = asks (word W.Void) R.Void ∷ []
 choices P.Parameters = asks (sign S.CloseParen) R.NoParameter ∷ []
 choices P.MoreParameters = asks (sign S.Comma) R.NextParameter ∷ []
-choices P.Parameter = []
-choices P.Block = []
 choices P.Statements = asks (sign S.CloseBrace) R.NoStatement ∷ []
 choices P.Statement = asks (word W.If) R.If ∷ asks (word W.While) R.While ∷ asks (word W.Read) R.Read ∷ asks (word W.Print) R.Print ∷ asks (word W.Return) R.Return ∷ asks (word W.Break) R.Break ∷ asks (sign S.OpenBrace) R.Nested ∷ asks (sign S.Semicolon) R.Empty ∷ []
 choices P.Action = asks (sign S.PlusPlus) R.Increment ∷ asks (sign S.MinusMinus) R.Decrement ∷ asks (sign S.OpenParen) R.CallStatement ∷ []
@@ -41,23 +36,19 @@ choices P.ReturnValue = asks (sign S.Semicolon) R.NoValue ∷ []
 choices P.PrintEnd = asks (sign S.Comma) R.Width ∷ []
 choices P.Arguments = asks (sign S.CloseParen) R.NoArgument ∷ []
 choices P.MoreArguments = asks (sign S.Comma) R.NextArgument ∷ []
-choices P.Condition = []
 choices P.OrTerms = asks (sign S.OrOr) R.Or ∷ []
-choices P.CondTerm = []
 choices P.AndFacts = asks (sign S.AndAnd) R.And ∷ []
-choices P.CondFact = []
 choices P.Relation = asks (sign S.NotEqual) R.NotEqual ∷ asks (sign S.Greater) R.Greater ∷ asks (sign S.GreaterEqual) R.GreaterEqual ∷ asks (sign S.Less) R.Less ∷ asks (sign S.LessEqual) R.LessEqual ∷ []
 choices P.Expr = asks (sign S.Minus) R.Negative ∷ []
 choices P.Sums = asks (sign S.Plus) R.Add ∷ asks (sign S.Minus) R.Subtract ∷ []
-choices P.Term = []
 choices P.Products = asks (sign S.Star) R.Multiply ∷ asks (sign S.Slash) R.Divide ∷ asks (sign S.Percent) R.Remainder ∷ []
 choices P.Factor = asks number R.Number ∷ asks character R.Character ∷ asks (word W.New) R.New ∷ asks (sign S.OpenParen) R.Bracketed ∷ []
 choices P.Call = asks (sign S.OpenParen) R.Call ∷ []
 choices P.Length = asks (sign S.OpenBracket) R.Length ∷ []
-choices P.Designator = []
 choices P.Selectors = asks (sign S.OpenBracket) R.Element ∷ asks (sign S.Dot) R.Field ∷ []
+choices p = []
 
--- the rule for every other token
+-- the rule for every other terminal, and for the end
 abbrev pub otherwise : Part → Rule
 otherwise P.Program = R.Program
 otherwise P.Declarations = R.Variables
@@ -100,10 +91,6 @@ otherwise P.Length = R.NoLength
 otherwise P.Designator = R.Designator
 otherwise P.Selectors = R.NoSelector
 
--- the first rule that a kind of token asks for, or else the one given
-abbrev pub chosen : List Choice → Kind → Rule → Rule
-chosen [] k r = r
-chosen (c ∷ cs) k r = cond (alike c.ahead k) c.rule (chosen cs k r)
-
-abbrev pub predicted : Part → Kind → Rule
-predicted p k = chosen (choices p) k (otherwise p)
+-- the rule of the first choice that asks for the terminal that comes next, or else the other one
+abbrev pub predicted : Part → Option Terminal → Rule
+predicted p a = unwrap_or (option_map (λ c. c.rule) (find (λ c. same (Some c.ahead) a) (choices p))) (otherwise p)

@@ -1,5 +1,6 @@
 -- What a list of tokens is by the grammar: which trees it makes, and how deep each token stands.
-use Rattle.std.specs.Prelude.{◌≡◌, ℕ, ◌+◌, true, false, List, [], ◌∷◌, Some, None, Option}
+use Rattle.std.specs.Prelude.{◌≡◌, ◌≢◌, ℕ, ◌+◌, true, false, List, [], ◌∷◌, Some, None, Option}
+use Rattle.std.specs.Option.{option_map}
 use Rattle.lexer.specs.declared.Kind.{Kind}
 use Rattle.lexer.specs.declared.Kind.TheVariants as K
 use Rattle.lexer.specs.declared.Token.{Token}
@@ -7,6 +8,7 @@ use Rattle.syntax.specs.declared.node.NodeKind.{NodeKind}
 use Rattle.syntax.specs.declared.node.NodeKind.TheVariants as N
 use Rattle.syntax.specs.declared.node.Own.{Own}
 use Rattle.syntax.specs.declared.parser.Nest.{Nest}
+use Rattle.syntax.specs.declared.grammar.Terminal.{Terminal}
 use Rattle.syntax.specs.declared.grammar.Part.{Part}
 use Rattle.syntax.specs.declared.grammar.Part.TheVariants as P
 use Rattle.syntax.specs.declared.grammar.Level.{Level}
@@ -16,7 +18,7 @@ use Rattle.syntax.specs.declared.grammar.Role.TheVariants as A
 use Rattle.syntax.specs.declared.grammar.Item.{Item}
 use Rattle.syntax.specs.declared.grammar.Item.TheVariants.{Make, Token as one, Unless, Part as part}
 use Rattle.syntax.specs.declared.grammar.Rule.{Rule}
-use Rattle.syntax.specs.Sorts.{alike, ahead}
+use Rattle.syntax.specs.Terminals.{terminal_of, ahead}
 use Rattle.syntax.specs.Grammar.{left, right, tail}
 use Rattle.syntax.specs.Trees.{node, Forest, bare, grown, join}
 
@@ -26,69 +28,31 @@ nested Same n = n
 nested Inner n = record { depth = n.depth + 1; in_loop = n.in_loop }
 nested Loop n = record { depth = n.depth + 1; in_loop = true }
 
--- the value of a number token
-abbrev pub value_in : Kind → ℕ
-value_in K.End = 0
-value_in K.Name = 0
-value_in (K.Number v) = v
-value_in (K.Character c) = 0
-value_in (K.Word w) = 0
-value_in (K.Sign g) = 0
-
--- the byte of a character token
-abbrev pub byte_in : Kind → ℕ
-byte_in K.End = 0
-byte_in K.Name = 0
-byte_in (K.Number v) = 0
-byte_in (K.Character c) = c
-byte_in (K.Word w) = 0
-byte_in (K.Sign g) = 0
+-- the node of a number or a character token, with its value
+abbrev pub literal : Kind → Option NodeKind
+literal (K.Number v) = Some (N.Number v)
+literal (K.Character c) = Some (N.Character c)
+literal kind = None
 
 -- the width that a token gives to a print: a number gives its value, any other token none
 abbrev pub width_in : Kind → Option ℕ
-width_in K.End = None
-width_in K.Name = None
 width_in (K.Number v) = Some v
-width_in (K.Character c) = None
-width_in (K.Word w) = None
-width_in (K.Sign g) = None
+width_in kind = None
 
--- What a node keeps of its own token and of a noted one: the value of a number or a character, the place of a field's or a
--- type's identifier, the width of a print, and whether a break stands in a while.
-abbrev pub informed : NodeKind → Token → Nest → NodeKind
-informed N.Empty t n = N.Empty
-informed N.Method t n = N.Method
-informed N.Parameter t n = N.Parameter
-informed N.Name t n = N.Name
-informed (N.Field p) t n = N.Field t.place
-informed N.Element t n = N.Element
-informed N.Call t n = N.Call
-informed N.CallStatement t n = N.CallStatement
-informed (N.Number v) t n = N.Number (value_in t.kind)
-informed (N.Character c) t n = N.Character (byte_in t.kind)
-informed (N.New p) t n = N.New t.place
-informed N.Negate t n = N.Negate
-informed (N.Binary o) t n = N.Binary o
-informed (N.Relation r) t n = N.Relation r
-informed N.And t n = N.And
-informed N.Or t n = N.Or
-informed N.Assign t n = N.Assign
-informed N.Increment t n = N.Increment
-informed N.Decrement t n = N.Decrement
-informed N.If t n = N.If
-informed N.While t n = N.While
-informed (N.Break b) t n = N.Break n.in_loop
-informed N.Return t n = N.Return
-informed N.Read t n = N.Read
-informed (N.Print w) t n = N.Print (width_in t.kind)
-informed N.Block t n = N.Block
+-- what a node keeps of a noted token: the place of a field's or a type's identifier, or the width of a print
+abbrev pub noting : NodeKind → Token → NodeKind
+noting (N.Field p) t = N.Field t.place
+noting (N.New p) t = N.New t.place
+noting (N.Print w) t = N.Print (width_in t.kind)
+noting kind t = kind
 
--- the node that is begun, after a token in its role
+-- the node that is begun, after a token in its role: a break keeps whether it stands in a while
 abbrev pub marked : Role → Token → Nest → Option Own → Option Own
 marked A.Plain t n o = o
-marked (A.Own k) t n o = Some (record { kind = informed k t n; place = t.place })
-marked A.Noted t n None = None
-marked A.Noted t n (Some own) = Some (record { kind = informed own.kind t n; place = own.place })
+marked (A.Own k) t n o = Some (record { kind = k; place = t.place })
+marked A.Literal t n o = option_map (λ k. record { kind = k; place = t.place }) (literal t.kind)
+marked A.Break t n o = Some (record { kind = N.Break n.in_loop; place = t.place })
+marked A.Noted t n o = option_map (λ own. record { kind = noting own.kind t; place = own.place }) o
 
 -- the trees of a part when its node is made: one, of which they are the parts
 abbrev pub made : Option Own → Forest → Forest
@@ -105,10 +69,10 @@ pub data Frame : Type 0 where
 pub data Derives : List Token → List Frame → Forest → List ℕ → Type 0 where
   -- no token is left, and the outermost part is complete
   finish : {n : Nest} {o : Option Own} {f : Forest} → Derives [] (frame [] None n o f ∷ []) f []
-  -- a token of the kind that comes next
-  token : {t : Token} {ts : List Token} {l : Level} {k : Kind} {role : Role} {is : List Item} {q : Option Part} {n : Nest} {o : Option Own} {f g : Forest} {s : List Frame} {ds : List ℕ} → alike k t.kind ≡ true → Derives ts (frame is q n (marked role t (nested l n) o) f ∷ s) g ds → Derives (t ∷ ts) (frame (one l k role ∷ is) q n o f ∷ s) g ((nested l n).depth ∷ ds)
-  -- a token of another kind comes next
-  unless : {ts : List Token} {k : Kind} {is : List Item} {q : Option Part} {n : Nest} {o : Option Own} {f g : Forest} {s : List Frame} {ds : List ℕ} → alike k (ahead ts) ≡ false → Derives ts (frame is q n o f ∷ s) g ds → Derives ts (frame (Unless k ∷ is) q n o f ∷ s) g ds
+  -- the terminal that comes next
+  token : {t : Token} {ts : List Token} {l : Level} {k : Terminal} {role : Role} {is : List Item} {q : Option Part} {n : Nest} {o : Option Own} {f g : Forest} {s : List Frame} {ds : List ℕ} → terminal_of t.kind ≡ Some k → Derives ts (frame is q n (marked role t (nested l n) o) f ∷ s) g ds → Derives (t ∷ ts) (frame (one l k role ∷ is) q n o f ∷ s) g ((nested l n).depth ∷ ds)
+  -- another terminal comes next, or none
+  unless : {ts : List Token} {k : Terminal} {is : List Item} {q : Option Part} {n : Nest} {o : Option Own} {f g : Forest} {s : List Frame} {ds : List ℕ} → ahead ts ≢ Some k → Derives ts (frame is q n o f ∷ s) g ds → Derives ts (frame (Unless k ∷ is) q n o f ∷ s) g ds
   -- a part begins, with no trees of its own so far
   begin : {ts : List Token} {l : Level} {p : Part} {is : List Item} {q : Option Part} {n : Nest} {o : Option Own} {f g : Forest} {s : List Frame} {ds : List ℕ} → Derives ts (frame [] (Some p) (nested l n) None bare ∷ frame is q n o f ∷ s) g ds → Derives ts (frame (part l p ∷ is) q n o f ∷ s) g ds
   -- the node is made

@@ -1,63 +1,54 @@
 -- The grammar of a recipe: its rules, one line to a rule.
 --
 -- A rule has a left side, the part of which it speaks; items, one behind the other; and in chains and lists a tail, a part
--- that goes on behind the items in one with them. The nodes of the tree are made on the way: an own token begins a node that
--- stands at it, a noted token gives that node its value or place, and `make` gives it as parts all the trees that were made
--- since the part began, from left to right. So a chain groups from the left.
-use Rattle.std.specs.Prelude.{false, List, [], ◌∷◌, Some, None, Option}
-use Rattle.lexer.specs.declared.Keyword.{Keyword}
+-- that goes on behind the items in one with them. The nodes of the tree are made on the way: an own token, a literal or a break
+-- begins a node that stands at it, a noted token gives that node its width or place, and `make` gives it as parts all the trees
+-- that were made since the part began, from left to right. So a chain groups from the left.
+use Rattle.std.specs.Prelude.{List, [], ◌∷◌, Some, None, Option}
 use Rattle.lexer.specs.declared.Keyword.TheVariants as W
-use Rattle.lexer.specs.declared.Operator.{Operator}
 use Rattle.lexer.specs.declared.Operator.TheVariants as S
-use Rattle.lexer.specs.declared.Kind.{Kind}
-use Rattle.lexer.specs.declared.Kind.TheVariants as K
 use Rattle.syntax.specs.declared.node.BinaryOp.TheVariants as B
-use Rattle.syntax.specs.declared.node.Relation.TheVariants as Q
+use Rattle.arith.specs.declared.Relation.TheVariants as Q
 use Rattle.syntax.specs.declared.node.NodeKind.{NodeKind}
 use Rattle.syntax.specs.declared.node.NodeKind.TheVariants as N
+use Rattle.syntax.specs.declared.grammar.Terminal.{Terminal}
+use Rattle.syntax.specs.declared.grammar.Terminal.TheVariants.{Name as name, Number as number, Character as character, Word as word, Sign as sign}
 use Rattle.syntax.specs.declared.grammar.Part.{Part}
 use Rattle.syntax.specs.declared.grammar.Part.TheVariants as P
 use Rattle.syntax.specs.declared.grammar.Level.TheVariants.{Same, Inner, Loop}
-use Rattle.syntax.specs.declared.grammar.Role.TheVariants.{Plain, Own, Noted}
+use Rattle.syntax.specs.declared.grammar.Role.TheVariants.{Plain, Own, Literal, Break, Noted}
 use Rattle.syntax.specs.declared.grammar.Item.{Item}
 use Rattle.syntax.specs.declared.grammar.Item.TheVariants as I
 use Rattle.syntax.specs.declared.grammar.Rule.{Rule}
 use Rattle.syntax.specs.declared.grammar.Rule.TheVariants as R
 
--- the kinds of tokens that rules name; the values of numbers and characters do not matter
-abbrev pub word : Keyword → Kind
-word w = K.Word w
-
-abbrev pub sign : Operator → Kind
-sign g = K.Sign g
-
-abbrev pub name : Kind
-name = K.Name
-
-abbrev pub number : Kind
-number = K.Number 0
-
-abbrev pub character : Kind
-character = K.Character 0
-
 -- one token
-abbrev pub one : Kind → Item
-one k = I.Token Same k Plain
+abbrev pub one : Terminal → Item
+one t = I.Token Same t Plain
 
 -- one token, at which the part's node stands
-abbrev pub own : Kind → NodeKind → Item
-own k n = I.Token Same k (Own n)
+abbrev pub own : Terminal → NodeKind → Item
+own t n = I.Token Same t (Own n)
 
--- one token that gives the node that is begun its value or place
-abbrev pub noted : Kind → Item
-noted k = I.Token Same k Noted
+-- one token, at which a literal's node stands, with its value
+abbrev pub literal : Terminal → Item
+literal t = I.Token Same t Literal
 
--- the same one deeper
-abbrev pub inner_one : Kind → Item
-inner_one k = I.Token Inner k Plain
+-- one token, at which a break's node stands
+abbrev pub breaks : Terminal → Item
+breaks t = I.Token Same t Break
 
-abbrev pub inner_noted : Kind → Item
-inner_noted k = I.Token Inner k Noted
+-- one token that gives the node that is begun its width or place
+abbrev pub noted : Terminal → Item
+noted t = I.Token Same t Noted
+
+-- one token deeper
+abbrev pub inner_one : Terminal → Item
+inner_one t = I.Token Inner t Plain
+
+-- one token deeper that gives the node that is begun its width
+abbrev pub inner_noted : Terminal → Item
+inner_noted t = I.Token Inner t Noted
 
 -- a part at the same depth
 abbrev pub part : Part → Item
@@ -232,7 +223,7 @@ right R.If = own (word W.If) N.If ∷ one (sign S.OpenParen) ∷ inner P.Conditi
 -- Statement = "while" "(" Condition ")" Statement, at the word
 right R.While = own (word W.While) N.While ∷ one (sign S.OpenParen) ∷ inner P.Condition ∷ one (sign S.CloseParen) ∷ looped P.Statement ∷ I.Make ∷ []
 -- Statement = "break" ";", at the word
-right R.Break = own (word W.Break) (N.Break false) ∷ one (sign S.Semicolon) ∷ I.Make ∷ []
+right R.Break = breaks (word W.Break) ∷ one (sign S.Semicolon) ∷ I.Make ∷ []
 -- Statement = "return" ReturnValue ";", at the word
 right R.Return = own (word W.Return) N.Return ∷ part P.ReturnValue ∷ one (sign S.Semicolon) ∷ I.Make ∷ []
 -- Statement = "read" "(" Designator ")" ";", at the word
@@ -320,9 +311,9 @@ right R.NoProduct = []
 -- Factor = Designator Call
 right R.Variable = part P.Designator ∷ []
 -- Factor = number
-right R.Number = own number (N.Number 0) ∷ I.Make ∷ []
+right R.Number = literal number ∷ I.Make ∷ []
 -- Factor = charConst
-right R.Character = own character (N.Character 0) ∷ I.Make ∷ []
+right R.Character = literal character ∷ I.Make ∷ []
 -- Factor = "new" ident Length, at the word; the identifier is the type
 right R.New = own (word W.New) (N.New 0) ∷ noted name ∷ []
 -- Factor = "(" Expr ")", with no node of its own
@@ -346,92 +337,35 @@ right R.NoSelector = []
 
 -- the tail of each rule
 abbrev pub tail : Rule → Option Part
-tail R.Program = None
 tail R.Constants = Some P.Declarations
 tail R.Variables = Some P.Declarations
 tail R.Classes = Some P.Declarations
-tail R.NoDeclaration = None
-tail R.ConstDecl = None
-tail R.NumberLiteral = None
-tail R.CharacterLiteral = None
-tail R.VarDecl = None
 tail R.MoreNames = Some P.Names
-tail R.NoName = None
-tail R.ClassDecl = None
 tail R.MoreVarDecls = Some P.VarDecls
-tail R.NoVarDecl = None
-tail R.Type = None
-tail R.ArrayBrackets = None
-tail R.NoBrackets = None
 tail R.MoreMethods = Some P.Methods
-tail R.NoMethod = None
-tail R.MethodDecl = None
-tail R.Function = None
-tail R.Void = None
 tail R.FirstParameter = Some P.MoreParameters
-tail R.NoParameter = None
 tail R.NextParameter = Some P.MoreParameters
-tail R.LastParameter = None
-tail R.Parameter = None
-tail R.Block = None
 tail R.MoreStatements = Some P.Statements
-tail R.NoStatement = None
 tail R.Action = Some P.Action
-tail R.If = None
-tail R.While = None
-tail R.Break = None
-tail R.Return = None
-tail R.Read = None
 tail R.Print = Some P.PrintEnd
-tail R.Nested = None
-tail R.Empty = None
-tail R.Assign = None
-tail R.CallStatement = None
-tail R.Increment = None
-tail R.Decrement = None
-tail R.Else = None
-tail R.NoElse = None
-tail R.Value = None
-tail R.NoValue = None
-tail R.Width = None
-tail R.NoWidth = None
 tail R.FirstArgument = Some P.MoreArguments
-tail R.NoArgument = None
 tail R.NextArgument = Some P.MoreArguments
-tail R.LastArgument = None
 tail R.Condition = Some P.OrTerms
 tail R.Or = Some P.OrTerms
-tail R.NoOr = None
 tail R.CondTerm = Some P.AndFacts
 tail R.And = Some P.AndFacts
-tail R.NoAnd = None
 tail R.CondFact = Some P.Relation
-tail R.Equal = None
-tail R.NotEqual = None
-tail R.Greater = None
-tail R.GreaterEqual = None
-tail R.Less = None
-tail R.LessEqual = None
 tail R.Negative = Some P.Sums
 tail R.Positive = Some P.Sums
 tail R.Add = Some P.Sums
 tail R.Subtract = Some P.Sums
-tail R.NoSum = None
 tail R.Term = Some P.Products
 tail R.Multiply = Some P.Products
 tail R.Divide = Some P.Products
 tail R.Remainder = Some P.Products
-tail R.NoProduct = None
 tail R.Variable = Some P.Call
-tail R.Number = None
-tail R.Character = None
 tail R.New = Some P.Length
-tail R.Bracketed = None
-tail R.Call = None
-tail R.NoCall = None
-tail R.Length = None
-tail R.NoLength = None
 tail R.Designator = Some P.Selectors
 tail R.Field = Some P.Selectors
 tail R.Element = Some P.Selectors
-tail R.NoSelector = None
+tail r = None

@@ -1,4 +1,4 @@
-pub mod Sorts
+pub mod Terminals
 pub mod Grammar
 pub mod Choices
 pub mod Trees

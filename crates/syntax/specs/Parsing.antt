@@ -2,8 +2,9 @@
 use Rattle.std.specs.Prelude.{◌≡◌, ℕ, ◌<◌, ◌≤◌, List, [], ◌∷◌, ◌++◌, length, Ok, Err, Result}
 use Rattle.lexer.specs.Scan.{Accepted, Refused}
 use Rattle.lexer.specs.declared.Token.{Token}
+use Rattle.lexer.specs.declared.Refusal.{Refusal}
 use Rattle.syntax.specs.declared.node.Node.{Node}
-use Rattle.syntax.specs.declared.refusal.Refusal.{Refusal}
+use Rattle.syntax.specs.declared.refusal.Reason.{Reason}
 use Rattle.syntax.specs.Derivations.{Program}
 use Rattle.syntax.specs.Refusals.{number_of}
 use Rattle.syntax.specs.Table.{loose}
@@ -56,6 +57,6 @@ pub data NoTree (text : List ℕ) (room : ℕ) : ℕ → ℕ → Type 0 where
   too_many : {ts : List Token} {f : Forest} → Accepted text ts → Reads ts f → room < sizes f → NoTree text room 7 0
 
 -- the answer of the parser, and what the table holds then: the tree, or nothing
-abbrev pub Parsed : List ℕ → ℕ → Result ℕ Refusal → List Node → Type 0
+abbrev pub Parsed : List ℕ → ℕ → Result ℕ (Refusal Reason) → List Node → Type 0
 Parsed text room (Ok n) table = (ts : List Token) × (f : Forest) × Accepted text ts × Reads ts f × (n ≡ sizes f) × (n ≤ room) × (table ≡ loose 0 f)
 Parsed text room (Err e) table = NoTree text room (number_of e.reason) e.place × (table ≡ [])

@@ -10,32 +10,13 @@ use Rattle.syntax.specs.Trees.{Tree, node, Forest, bare, grown, sizes}
 
 -- how a node uses its first part: a store stores into it, a call calls it
 abbrev pub first_use : NodeKind → Use
-first_use N.Empty = Value
-first_use N.Method = Value
-first_use N.Parameter = Value
-first_use N.Name = Value
-first_use (N.Field p) = Value
-first_use N.Element = Value
 first_use N.Call = Called
 first_use N.CallStatement = Called
-first_use (N.Number v) = Value
-first_use (N.Character c) = Value
-first_use (N.New p) = Value
-first_use N.Negate = Value
-first_use (N.Binary o) = Value
-first_use (N.Relation r) = Value
-first_use N.And = Value
-first_use N.Or = Value
 first_use N.Assign = Stored
 first_use N.Increment = Stored
 first_use N.Decrement = Stored
-first_use N.If = Value
-first_use N.While = Value
-first_use (N.Break b) = Value
-first_use N.Return = Value
 first_use N.Read = Stored
-first_use (N.Print w) = Value
-first_use N.Block = Value
+first_use kind = Value
 
 -- the index of a tree's own node where its nodes begin at b
 abbrev pub root : ℕ → Tree → ℕ

@@ -1,14 +1,42 @@
-// The grammar: its parts, its rules, and the rule that the next token asks for.
-ghost use Rattle.std.specs.Prelude.{◌≡◌, ◌==◌};
+// The grammar: its terminals, its parts, its rules, and the rule that the next token asks for.
+ghost use Rattle.std.specs.Prelude.{◌≡◌};
 ghost use Rattle.syntax.specs.Choices.{choices, otherwise, predicted};
 ghost use Rattle.syntax.specs.Grammar.{right, tail};
-ghost use Rattle.syntax.specs.Sorts.{sort};
+ghost use Rattle.syntax.specs.Terminals.{terminal_of};
 
-use crate::node::{BinaryOp, NodeKind, Relation};
+use self::Role::{Literal, Noted, Own};
+use crate::node::{BinaryOp, NodeKind};
+use arith::Relation;
 use lexer::{Keyword, Kind, Operator};
 
+/// What the grammar can ask for: a token, its value aside.
+#[derive(Clone, Copy, Debug, PartialEq)]
+pub enum Terminal {
+    Name,
+    Number,
+    Character,
+    Word(Keyword),
+    Sign(Operator),
+}
+
+impl Terminal {
+    /// The terminal that a token of this kind is; none at the end of the text.
+    pub(crate) fn of(kind: Kind) -> Option<Terminal>
+        ensures { result ≡ terminal_of kind }
+    {
+        match kind {
+            Kind::End => None,
+            Kind::Name => Some(Terminal::Name),
+            Kind::Number(_) => Some(Terminal::Number),
+            Kind::Character(_) => Some(Terminal::Character),
+            Kind::Word(word) => Some(Terminal::Word(word)),
+            Kind::Sign(sign) => Some(Terminal::Sign(sign)),
+        }
+    }
+}
+
 /// The parts of a recipe that the grammar speaks of.
-#[derive(Clone, Copy)]
+#[derive(Clone, Copy, Debug, PartialEq)]
 pub enum Part {
     Program,
     Declarations,
@@ -53,7 +81,7 @@ pub enum Part {
 }
 
 /// How deep an item stands, seen from its rule.
-#[derive(Clone, Copy)]
+#[derive(Clone, Copy, Debug, PartialEq)]
 pub enum Level {
     /// As deep as the rule.
     Same,
@@ -64,30 +92,35 @@ pub enum Level {
 }
 
 /// What a token does besides standing in its place.
-#[derive(Clone, Copy)]
+#[derive(Clone, Copy, Debug, PartialEq)]
 pub enum Role {
     Plain,
     /// A node of this kind stands at it.
     Own(NodeKind),
-    /// The node that is begun keeps the token's value or place.
+    /// The node of a number or a character stands at it, with its value.
+    Literal,
+    /// The node of a `break` stands at it.
+    Break,
+    /// The node that is begun keeps the number as its width, or the place of the name.
     Noted,
 }
 
 /// One item of a rule.
-#[derive(Clone, Copy)]
+#[derive(Clone, Copy, Debug, PartialEq)]
 pub enum Item {
     /// All that was laid for this part so far becomes the parts of the node that is begun.
     Make,
-    /// A token of this kind, whatever its value.
-    Token(Level, Kind, Role),
-    /// The next token is of another kind.
-    Unless(Kind),
+    /// This terminal.
+    Token(Level, Terminal, Role),
+    /// Any other terminal comes next, or the end.
+    Unless(Terminal),
     /// A part of the recipe.
     Part(Level, Part),
 }
 
 /// The rules. Each has a left side (a part), items, and in chains and lists a part that goes on behind them.
-#[derive(Clone, Copy)]
+// Data and no closures: the proofs compute over the whole grammar.
+#[derive(Clone, Copy, Debug, PartialEq)]
 pub enum Rule {
     Program,
     Constants,
@@ -180,442 +213,175 @@ pub enum Rule {
     NoSelector,
 }
 
+// A keyword in a rule, and what it does there.
+macro_rules! word {
+    ($word:ident) => {
+        word!($word, Role::Plain)
+    };
+    ($word:ident, $role:expr) => {
+        Item::Token(Level::Same, Terminal::Word(Keyword::$word), $role)
+    };
+}
+
+// A sign in a rule, and what it does there.
+macro_rules! sign {
+    ($sign:ident) => {
+        sign!($sign, Role::Plain)
+    };
+    ($sign:ident, $role:expr) => {
+        Item::Token(Level::Same, Terminal::Sign(Operator::$sign), $role)
+    };
+}
+
+// Any other terminal in a rule, and what it does there.
+macro_rules! token {
+    ($terminal:ident) => {
+        token!($terminal, Role::Plain)
+    };
+    ($terminal:ident, $role:expr) => {
+        Item::Token(Level::Same, Terminal::$terminal, $role)
+    };
+}
+
+// A part in a rule, as deep as the rule.
+macro_rules! part {
+    ($part:ident) => {
+        Item::Part(Level::Same, Part::$part)
+    };
+}
+
+// A part in a rule, one deeper.
+macro_rules! inner {
+    ($part:ident) => {
+        Item::Part(Level::Inner, Part::$part)
+    };
+}
+
 impl Rule {
     /// The items of the rule.
+    // A table of all rules, one after the other as a grammar is read.
+    #[rattlefmt::skip]
     pub(crate) fn items(self) -> &'static [Item]
         ensures { result.now ≡ right self }
     {
         match self {
             Rule::Program => &[
-                Item::Token(Level::Same, Kind::Word(Keyword::Program), Role::Plain),
-                Item::Token(Level::Same, Kind::Name, Role::Plain),
-                Item::Part(Level::Same, Part::Declarations),
-                Item::Token(Level::Same, Kind::Sign(Operator::OpenBrace), Role::Plain),
-                Item::Part(Level::Inner, Part::Methods),
-                Item::Token(Level::Same, Kind::Sign(Operator::CloseBrace), Role::Plain),
+                word!(Program), token!(Name), part!(Declarations), sign!(OpenBrace), inner!(Methods),
+                sign!(CloseBrace),
             ],
-            Rule::Constants => &[Item::Part(Level::Same, Part::ConstDecl)],
-            Rule::Variables => &[Item::Part(Level::Same, Part::VarDecl)],
-            Rule::Classes => &[Item::Part(Level::Same, Part::ClassDecl)],
+            Rule::Constants => &[part!(ConstDecl)],
+            Rule::Variables => &[part!(VarDecl)],
+            Rule::Classes => &[part!(ClassDecl)],
             Rule::NoDeclaration => &[],
             Rule::ConstDecl => &[
-                Item::Token(Level::Same, Kind::Word(Keyword::Final), Role::Plain),
-                Item::Part(Level::Same, Part::Type),
-                Item::Token(Level::Same, Kind::Name, Role::Plain),
-                Item::Token(Level::Same, Kind::Sign(Operator::Assign), Role::Plain),
-                Item::Part(Level::Same, Part::Literal),
-                Item::Token(Level::Same, Kind::Sign(Operator::Semicolon), Role::Plain),
+                word!(Final), part!(Type), token!(Name), sign!(Assign), part!(Literal), sign!(Semicolon),
             ],
-            Rule::NumberLiteral => &[Item::Token(Level::Same, Kind::Number(0), Role::Plain)],
-            Rule::CharacterLiteral => &[Item::Token(Level::Same, Kind::Character(0), Role::Plain)],
-            Rule::VarDecl => &[
-                Item::Part(Level::Same, Part::Type),
-                Item::Token(Level::Same, Kind::Name, Role::Plain),
-                Item::Part(Level::Same, Part::Names),
-                Item::Token(Level::Same, Kind::Sign(Operator::Semicolon), Role::Plain),
-            ],
-            Rule::MoreNames => &[
-                Item::Token(Level::Same, Kind::Sign(Operator::Comma), Role::Plain),
-                Item::Token(Level::Same, Kind::Name, Role::Plain),
-            ],
+            Rule::NumberLiteral => &[token!(Number)],
+            Rule::CharacterLiteral => &[token!(Character)],
+            Rule::VarDecl => &[part!(Type), token!(Name), part!(Names), sign!(Semicolon)],
+            Rule::MoreNames => &[sign!(Comma), token!(Name)],
             Rule::NoName => &[],
-            Rule::ClassDecl => &[
-                Item::Token(Level::Same, Kind::Word(Keyword::Class), Role::Plain),
-                Item::Token(Level::Same, Kind::Name, Role::Plain),
-                Item::Token(Level::Same, Kind::Sign(Operator::OpenBrace), Role::Plain),
-                Item::Part(Level::Inner, Part::VarDecls),
-                Item::Token(Level::Same, Kind::Sign(Operator::CloseBrace), Role::Plain),
-            ],
-            Rule::MoreVarDecls => &[Item::Part(Level::Same, Part::VarDecl)],
+            Rule::ClassDecl => &[word!(Class), token!(Name), sign!(OpenBrace), inner!(VarDecls), sign!(CloseBrace)],
+            Rule::MoreVarDecls => &[part!(VarDecl)],
             Rule::NoVarDecl => &[],
-            Rule::Type => &[
-                Item::Token(Level::Same, Kind::Name, Role::Plain),
-                Item::Part(Level::Same, Part::Brackets),
-            ],
-            Rule::ArrayBrackets => &[
-                Item::Token(Level::Same, Kind::Sign(Operator::OpenBracket), Role::Plain),
-                Item::Token(Level::Same, Kind::Sign(Operator::CloseBracket), Role::Plain),
-            ],
+            Rule::Type => &[token!(Name), part!(Brackets)],
+            Rule::ArrayBrackets => &[sign!(OpenBracket), sign!(CloseBracket)],
             Rule::NoBrackets => &[],
-            Rule::MoreMethods => &[Item::Part(Level::Same, Part::MethodDecl)],
+            Rule::MoreMethods => &[part!(MethodDecl)],
             Rule::NoMethod => &[],
             Rule::MethodDecl => &[
-                Item::Part(Level::Same, Part::ReturnType),
-                Item::Token(Level::Same, Kind::Name, Role::Own(NodeKind::Method)),
-                Item::Token(Level::Same, Kind::Sign(Operator::OpenParen), Role::Plain),
-                Item::Part(Level::Inner, Part::Parameters),
-                Item::Token(Level::Same, Kind::Sign(Operator::CloseParen), Role::Plain),
-                Item::Part(Level::Same, Part::VarDecls),
-                Item::Part(Level::Same, Part::Block),
-                Item::Make,
+                part!(ReturnType), token!(Name, Own(NodeKind::Method)), sign!(OpenParen), inner!(Parameters),
+                sign!(CloseParen), part!(VarDecls), part!(Block), Item::Make,
             ],
-            Rule::Function => &[Item::Part(Level::Same, Part::Type)],
-            Rule::Void => &[Item::Token(Level::Same, Kind::Word(Keyword::Void), Role::Plain)],
-            Rule::FirstParameter => &[Item::Part(Level::Same, Part::Parameter)],
+            Rule::Function => &[part!(Type)],
+            Rule::Void => &[word!(Void)],
+            Rule::FirstParameter => &[part!(Parameter)],
             Rule::NoParameter => &[],
-            Rule::NextParameter => &[
-                Item::Token(Level::Same, Kind::Sign(Operator::Comma), Role::Plain),
-                Item::Part(Level::Same, Part::Parameter),
-            ],
+            Rule::NextParameter => &[sign!(Comma), part!(Parameter)],
             Rule::LastParameter => &[],
-            Rule::Parameter => &[
-                Item::Part(Level::Same, Part::Type),
-                Item::Token(Level::Same, Kind::Name, Role::Own(NodeKind::Parameter)),
-                Item::Make,
-            ],
-            Rule::Block => &[
-                Item::Token(
-                    Level::Same,
-                    Kind::Sign(Operator::OpenBrace),
-                    Role::Own(NodeKind::Block),
-                ),
-                Item::Part(Level::Inner, Part::Statements),
-                Item::Token(Level::Same, Kind::Sign(Operator::CloseBrace), Role::Plain),
-                Item::Make,
-            ],
-            Rule::MoreStatements => &[Item::Part(Level::Same, Part::Statement)],
+            Rule::Parameter => &[part!(Type), token!(Name, Own(NodeKind::Parameter)), Item::Make],
+            Rule::Block => &[sign!(OpenBrace, Own(NodeKind::Block)), inner!(Statements), sign!(CloseBrace), Item::Make],
+            Rule::MoreStatements => &[part!(Statement)],
             Rule::NoStatement => &[],
-            Rule::Action => &[Item::Part(Level::Same, Part::Designator)],
+            Rule::Action => &[part!(Designator)],
             Rule::If => &[
-                Item::Token(
-                    Level::Same,
-                    Kind::Word(Keyword::If),
-                    Role::Own(NodeKind::If),
-                ),
-                Item::Token(Level::Same, Kind::Sign(Operator::OpenParen), Role::Plain),
-                Item::Part(Level::Inner, Part::Condition),
-                Item::Token(Level::Same, Kind::Sign(Operator::CloseParen), Role::Plain),
-                Item::Part(Level::Inner, Part::Statement),
-                Item::Part(Level::Same, Part::Else),
-                Item::Make,
+                word!(If, Own(NodeKind::If)), sign!(OpenParen), inner!(Condition), sign!(CloseParen),
+                inner!(Statement), part!(Else), Item::Make,
             ],
             Rule::While => &[
-                Item::Token(
-                    Level::Same,
-                    Kind::Word(Keyword::While),
-                    Role::Own(NodeKind::While),
-                ),
-                Item::Token(Level::Same, Kind::Sign(Operator::OpenParen), Role::Plain),
-                Item::Part(Level::Inner, Part::Condition),
-                Item::Token(Level::Same, Kind::Sign(Operator::CloseParen), Role::Plain),
-                Item::Part(Level::Loop, Part::Statement),
-                Item::Make,
+                word!(While, Own(NodeKind::While)), sign!(OpenParen), inner!(Condition), sign!(CloseParen),
+                Item::Part(Level::Loop, Part::Statement), Item::Make,
             ],
-            Rule::Break => &[
-                Item::Token(
-                    Level::Same,
-                    Kind::Word(Keyword::Break),
-                    Role::Own(NodeKind::Break { in_loop: false }),
-                ),
-                Item::Token(Level::Same, Kind::Sign(Operator::Semicolon), Role::Plain),
-                Item::Make,
-            ],
-            Rule::Return => &[
-                Item::Token(
-                    Level::Same,
-                    Kind::Word(Keyword::Return),
-                    Role::Own(NodeKind::Return),
-                ),
-                Item::Part(Level::Same, Part::ReturnValue),
-                Item::Token(Level::Same, Kind::Sign(Operator::Semicolon), Role::Plain),
-                Item::Make,
-            ],
+            Rule::Break => &[word!(Break, Role::Break), sign!(Semicolon), Item::Make],
+            Rule::Return => &[word!(Return, Own(NodeKind::Return)), part!(ReturnValue), sign!(Semicolon), Item::Make],
             Rule::Read => &[
-                Item::Token(
-                    Level::Same,
-                    Kind::Word(Keyword::Read),
-                    Role::Own(NodeKind::Read),
-                ),
-                Item::Token(Level::Same, Kind::Sign(Operator::OpenParen), Role::Plain),
-                Item::Part(Level::Inner, Part::Designator),
-                Item::Token(Level::Same, Kind::Sign(Operator::CloseParen), Role::Plain),
-                Item::Token(Level::Same, Kind::Sign(Operator::Semicolon), Role::Plain),
-                Item::Make,
+                word!(Read, Own(NodeKind::Read)), sign!(OpenParen), inner!(Designator), sign!(CloseParen),
+                sign!(Semicolon), Item::Make,
             ],
-            Rule::Print => &[
-                Item::Token(
-                    Level::Same,
-                    Kind::Word(Keyword::Print),
-                    Role::Own(NodeKind::Print { width: None }),
-                ),
-                Item::Token(Level::Same, Kind::Sign(Operator::OpenParen), Role::Plain),
-                Item::Part(Level::Inner, Part::Expr),
-            ],
-            Rule::Nested => &[Item::Part(Level::Same, Part::Block)],
-            Rule::Empty => &[
-                Item::Token(
-                    Level::Same,
-                    Kind::Sign(Operator::Semicolon),
-                    Role::Own(NodeKind::Empty),
-                ),
-                Item::Make,
-            ],
-            Rule::Assign => &[
-                Item::Token(
-                    Level::Same,
-                    Kind::Sign(Operator::Assign),
-                    Role::Own(NodeKind::Assign),
-                ),
-                Item::Part(Level::Same, Part::Expr),
-                Item::Token(Level::Same, Kind::Sign(Operator::Semicolon), Role::Plain),
-                Item::Make,
-            ],
+            Rule::Print => &[word!(Print, Own(NodeKind::Print { width: None })), sign!(OpenParen), inner!(Expr)],
+            Rule::Nested => &[part!(Block)],
+            Rule::Empty => &[sign!(Semicolon, Own(NodeKind::Empty)), Item::Make],
+            Rule::Assign => &[sign!(Assign, Own(NodeKind::Assign)), part!(Expr), sign!(Semicolon), Item::Make],
             Rule::CallStatement => &[
-                Item::Token(
-                    Level::Same,
-                    Kind::Sign(Operator::OpenParen),
-                    Role::Own(NodeKind::CallStatement),
-                ),
-                Item::Part(Level::Inner, Part::Arguments),
-                Item::Token(Level::Same, Kind::Sign(Operator::CloseParen), Role::Plain),
-                Item::Token(Level::Same, Kind::Sign(Operator::Semicolon), Role::Plain),
-                Item::Make,
+                sign!(OpenParen, Own(NodeKind::CallStatement)), inner!(Arguments), sign!(CloseParen),
+                sign!(Semicolon), Item::Make,
             ],
-            Rule::Increment => &[
-                Item::Token(
-                    Level::Same,
-                    Kind::Sign(Operator::PlusPlus),
-                    Role::Own(NodeKind::Increment),
-                ),
-                Item::Token(Level::Same, Kind::Sign(Operator::Semicolon), Role::Plain),
-                Item::Make,
-            ],
-            Rule::Decrement => &[
-                Item::Token(
-                    Level::Same,
-                    Kind::Sign(Operator::MinusMinus),
-                    Role::Own(NodeKind::Decrement),
-                ),
-                Item::Token(Level::Same, Kind::Sign(Operator::Semicolon), Role::Plain),
-                Item::Make,
-            ],
-            Rule::Else => &[
-                Item::Token(Level::Same, Kind::Word(Keyword::Else), Role::Plain),
-                Item::Part(Level::Inner, Part::Statement),
-            ],
-            Rule::NoElse => &[Item::Unless(Kind::Word(Keyword::Else))],
-            Rule::Value => &[Item::Part(Level::Same, Part::Expr)],
+            Rule::Increment => &[sign!(PlusPlus, Own(NodeKind::Increment)), sign!(Semicolon), Item::Make],
+            Rule::Decrement => &[sign!(MinusMinus, Own(NodeKind::Decrement)), sign!(Semicolon), Item::Make],
+            Rule::Else => &[word!(Else), inner!(Statement)],
+            Rule::NoElse => &[Item::Unless(Terminal::Word(Keyword::Else))],
+            Rule::Value => &[part!(Expr)],
             Rule::NoValue => &[],
             Rule::Width => &[
-                Item::Token(Level::Inner, Kind::Sign(Operator::Comma), Role::Plain),
-                Item::Token(Level::Inner, Kind::Number(0), Role::Noted),
-                Item::Token(Level::Same, Kind::Sign(Operator::CloseParen), Role::Plain),
-                Item::Token(Level::Same, Kind::Sign(Operator::Semicolon), Role::Plain),
-                Item::Make,
+                Item::Token(Level::Inner, Terminal::Sign(Operator::Comma), Role::Plain),
+                Item::Token(Level::Inner, Terminal::Number, Noted), sign!(CloseParen), sign!(Semicolon), Item::Make,
             ],
-            Rule::NoWidth => &[
-                Item::Token(Level::Same, Kind::Sign(Operator::CloseParen), Role::Plain),
-                Item::Token(Level::Same, Kind::Sign(Operator::Semicolon), Role::Plain),
-                Item::Make,
-            ],
-            Rule::FirstArgument => &[Item::Part(Level::Same, Part::Expr)],
+            Rule::NoWidth => &[sign!(CloseParen), sign!(Semicolon), Item::Make],
+            Rule::FirstArgument => &[part!(Expr)],
             Rule::NoArgument => &[],
-            Rule::NextArgument => &[
-                Item::Token(Level::Same, Kind::Sign(Operator::Comma), Role::Plain),
-                Item::Part(Level::Same, Part::Expr),
-            ],
+            Rule::NextArgument => &[sign!(Comma), part!(Expr)],
             Rule::LastArgument => &[],
-            Rule::Condition => &[Item::Part(Level::Same, Part::CondTerm)],
-            Rule::Or => &[
-                Item::Token(
-                    Level::Same,
-                    Kind::Sign(Operator::OrOr),
-                    Role::Own(NodeKind::Or),
-                ),
-                Item::Part(Level::Same, Part::CondTerm),
-                Item::Make,
-            ],
+            Rule::Condition => &[part!(CondTerm)],
+            Rule::Or => &[sign!(OrOr, Own(NodeKind::Or)), part!(CondTerm), Item::Make],
             Rule::NoOr => &[],
-            Rule::CondTerm => &[Item::Part(Level::Same, Part::CondFact)],
-            Rule::And => &[
-                Item::Token(
-                    Level::Same,
-                    Kind::Sign(Operator::AndAnd),
-                    Role::Own(NodeKind::And),
-                ),
-                Item::Part(Level::Same, Part::CondFact),
-                Item::Make,
-            ],
+            Rule::CondTerm => &[part!(CondFact)],
+            Rule::And => &[sign!(AndAnd, Own(NodeKind::And)), part!(CondFact), Item::Make],
             Rule::NoAnd => &[],
-            Rule::CondFact => &[Item::Part(Level::Same, Part::Expr)],
-            Rule::Equal => &[
-                Item::Token(
-                    Level::Same,
-                    Kind::Sign(Operator::EqualEqual),
-                    Role::Own(NodeKind::Relation(Relation::Equal)),
-                ),
-                Item::Part(Level::Same, Part::Expr),
-                Item::Make,
-            ],
-            Rule::NotEqual => &[
-                Item::Token(
-                    Level::Same,
-                    Kind::Sign(Operator::NotEqual),
-                    Role::Own(NodeKind::Relation(Relation::NotEqual)),
-                ),
-                Item::Part(Level::Same, Part::Expr),
-                Item::Make,
-            ],
-            Rule::Greater => &[
-                Item::Token(
-                    Level::Same,
-                    Kind::Sign(Operator::Greater),
-                    Role::Own(NodeKind::Relation(Relation::Greater)),
-                ),
-                Item::Part(Level::Same, Part::Expr),
-                Item::Make,
-            ],
+            Rule::CondFact => &[part!(Expr)],
+            Rule::Equal => &[sign!(EqualEqual, Own(NodeKind::Relation(Relation::Equal))), part!(Expr), Item::Make],
+            Rule::NotEqual => &[sign!(NotEqual, Own(NodeKind::Relation(Relation::NotEqual))), part!(Expr), Item::Make],
+            Rule::Greater => &[sign!(Greater, Own(NodeKind::Relation(Relation::Greater))), part!(Expr), Item::Make],
             Rule::GreaterEqual => &[
-                Item::Token(
-                    Level::Same,
-                    Kind::Sign(Operator::GreaterEqual),
-                    Role::Own(NodeKind::Relation(Relation::GreaterEqual)),
-                ),
-                Item::Part(Level::Same, Part::Expr),
-                Item::Make,
+                sign!(GreaterEqual, Own(NodeKind::Relation(Relation::GreaterEqual))), part!(Expr), Item::Make,
             ],
-            Rule::Less => &[
-                Item::Token(
-                    Level::Same,
-                    Kind::Sign(Operator::Less),
-                    Role::Own(NodeKind::Relation(Relation::Less)),
-                ),
-                Item::Part(Level::Same, Part::Expr),
-                Item::Make,
-            ],
+            Rule::Less => &[sign!(Less, Own(NodeKind::Relation(Relation::Less))), part!(Expr), Item::Make],
             Rule::LessEqual => &[
-                Item::Token(
-                    Level::Same,
-                    Kind::Sign(Operator::LessEqual),
-                    Role::Own(NodeKind::Relation(Relation::LessEqual)),
-                ),
-                Item::Part(Level::Same, Part::Expr),
-                Item::Make,
+                sign!(LessEqual, Own(NodeKind::Relation(Relation::LessEqual))), part!(Expr), Item::Make,
             ],
-            Rule::Negative => &[
-                Item::Token(
-                    Level::Same,
-                    Kind::Sign(Operator::Minus),
-                    Role::Own(NodeKind::Negate),
-                ),
-                Item::Part(Level::Same, Part::Term),
-                Item::Make,
-            ],
-            Rule::Positive => &[Item::Part(Level::Same, Part::Term)],
-            Rule::Add => &[
-                Item::Token(
-                    Level::Same,
-                    Kind::Sign(Operator::Plus),
-                    Role::Own(NodeKind::Binary(BinaryOp::Add)),
-                ),
-                Item::Part(Level::Same, Part::Term),
-                Item::Make,
-            ],
-            Rule::Subtract => &[
-                Item::Token(
-                    Level::Same,
-                    Kind::Sign(Operator::Minus),
-                    Role::Own(NodeKind::Binary(BinaryOp::Subtract)),
-                ),
-                Item::Part(Level::Same, Part::Term),
-                Item::Make,
-            ],
+            Rule::Negative => &[sign!(Minus, Own(NodeKind::Negate)), part!(Term), Item::Make],
+            Rule::Positive => &[part!(Term)],
+            Rule::Add => &[sign!(Plus, Own(NodeKind::Binary(BinaryOp::Add))), part!(Term), Item::Make],
+            Rule::Subtract => &[sign!(Minus, Own(NodeKind::Binary(BinaryOp::Subtract))), part!(Term), Item::Make],
             Rule::NoSum => &[],
-            Rule::Term => &[Item::Part(Level::Same, Part::Factor)],
-            Rule::Multiply => &[
-                Item::Token(
-                    Level::Same,
-                    Kind::Sign(Operator::Star),
-                    Role::Own(NodeKind::Binary(BinaryOp::Multiply)),
-                ),
-                Item::Part(Level::Same, Part::Factor),
-                Item::Make,
-            ],
-            Rule::Divide => &[
-                Item::Token(
-                    Level::Same,
-                    Kind::Sign(Operator::Slash),
-                    Role::Own(NodeKind::Binary(BinaryOp::Divide)),
-                ),
-                Item::Part(Level::Same, Part::Factor),
-                Item::Make,
-            ],
-            Rule::Remainder => &[
-                Item::Token(
-                    Level::Same,
-                    Kind::Sign(Operator::Percent),
-                    Role::Own(NodeKind::Binary(BinaryOp::Remainder)),
-                ),
-                Item::Part(Level::Same, Part::Factor),
-                Item::Make,
-            ],
+            Rule::Term => &[part!(Factor)],
+            Rule::Multiply => &[sign!(Star, Own(NodeKind::Binary(BinaryOp::Multiply))), part!(Factor), Item::Make],
+            Rule::Divide => &[sign!(Slash, Own(NodeKind::Binary(BinaryOp::Divide))), part!(Factor), Item::Make],
+            Rule::Remainder => &[sign!(Percent, Own(NodeKind::Binary(BinaryOp::Remainder))), part!(Factor), Item::Make],
             Rule::NoProduct => &[],
-            Rule::Variable => &[Item::Part(Level::Same, Part::Designator)],
-            Rule::Number => &[
-                Item::Token(Level::Same, Kind::Number(0), Role::Own(NodeKind::Number(0))),
-                Item::Make,
-            ],
-            Rule::Character => &[
-                Item::Token(
-                    Level::Same,
-                    Kind::Character(0),
-                    Role::Own(NodeKind::Character(0)),
-                ),
-                Item::Make,
-            ],
-            Rule::New => &[
-                Item::Token(
-                    Level::Same,
-                    Kind::Word(Keyword::New),
-                    Role::Own(NodeKind::New { class: 0 }),
-                ),
-                Item::Token(Level::Same, Kind::Name, Role::Noted),
-            ],
-            Rule::Bracketed => &[
-                Item::Token(Level::Same, Kind::Sign(Operator::OpenParen), Role::Plain),
-                Item::Part(Level::Inner, Part::Expr),
-                Item::Token(Level::Same, Kind::Sign(Operator::CloseParen), Role::Plain),
-            ],
-            Rule::Call => &[
-                Item::Token(
-                    Level::Same,
-                    Kind::Sign(Operator::OpenParen),
-                    Role::Own(NodeKind::Call),
-                ),
-                Item::Part(Level::Inner, Part::Arguments),
-                Item::Token(Level::Same, Kind::Sign(Operator::CloseParen), Role::Plain),
-                Item::Make,
-            ],
+            Rule::Variable => &[part!(Designator)],
+            Rule::Number => &[token!(Number, Literal), Item::Make],
+            Rule::Character => &[token!(Character, Literal), Item::Make],
+            // The place in `New` and `Field` is 0 until the name is noted: kinds without values would be a second such enum.
+            Rule::New => &[word!(New, Own(NodeKind::New { class: 0 })), token!(Name, Noted)],
+            Rule::Bracketed => &[sign!(OpenParen), inner!(Expr), sign!(CloseParen)],
+            Rule::Call => &[sign!(OpenParen, Own(NodeKind::Call)), inner!(Arguments), sign!(CloseParen), Item::Make],
             Rule::NoCall => &[],
-            Rule::Length => &[
-                Item::Token(Level::Same, Kind::Sign(Operator::OpenBracket), Role::Plain),
-                Item::Part(Level::Inner, Part::Expr),
-                Item::Token(Level::Same, Kind::Sign(Operator::CloseBracket), Role::Plain),
-                Item::Make,
-            ],
+            Rule::Length => &[sign!(OpenBracket), inner!(Expr), sign!(CloseBracket), Item::Make],
             Rule::NoLength => &[Item::Make],
-            Rule::Designator => &[
-                Item::Token(Level::Same, Kind::Name, Role::Own(NodeKind::Name)),
-                Item::Make,
-            ],
-            Rule::Field => &[
-                Item::Token(
-                    Level::Same,
-                    Kind::Sign(Operator::Dot),
-                    Role::Own(NodeKind::Field { name: 0 }),
-                ),
-                Item::Token(Level::Same, Kind::Name, Role::Noted),
-                Item::Make,
-            ],
+            Rule::Designator => &[token!(Name, Own(NodeKind::Name)), Item::Make],
+            Rule::Field => &[sign!(Dot, Own(NodeKind::Field { name: 0 })), token!(Name, Noted), Item::Make],
             Rule::Element => &[
-                Item::Token(
-                    Level::Same,
-                    Kind::Sign(Operator::OpenBracket),
-                    Role::Own(NodeKind::Element),
-                ),
-                Item::Part(Level::Inner, Part::Expr),
-                Item::Token(Level::Same, Kind::Sign(Operator::CloseBracket), Role::Plain),
-                Item::Make,
+                sign!(OpenBracket, Own(NodeKind::Element)), inner!(Expr), sign!(CloseBracket), Item::Make,
             ],
             Rule::NoSelector => &[],
         }
@@ -648,231 +414,79 @@ impl Rule {
     }
 }
 
-/// A rule that a kind of token asks for.
-#[derive(Clone, Copy)]
+/// A rule that a terminal asks for.
+#[derive(Clone, Copy, Debug, PartialEq)]
 pub struct Choice {
-    pub ahead: Kind,
+    pub ahead: Terminal,
     pub rule: Rule,
+}
+
+// A terminal and the rule that it asks for.
+macro_rules! asks {
+    (word $word:ident => $rule:ident) => {
+        Choice { ahead: Terminal::Word(Keyword::$word), rule: Rule::$rule }
+    };
+    (sign $sign:ident => $rule:ident) => {
+        Choice { ahead: Terminal::Sign(Operator::$sign), rule: Rule::$rule }
+    };
+    ($terminal:ident => $rule:ident) => {
+        Choice { ahead: Terminal::$terminal, rule: Rule::$rule }
+    };
 }
 
 impl Part {
     /// The rules that the next token asks for.
+    // A table of all parts.
+    #[rattlefmt::skip]
     fn choices(self) -> &'static [Choice]
         ensures { result.now ≡ choices self }
     {
         match self {
             Part::Declarations => &[
-                Choice {
-                    ahead: Kind::Word(Keyword::Class),
-                    rule: Rule::Classes,
-                },
-                Choice {
-                    ahead: Kind::Word(Keyword::Final),
-                    rule: Rule::Constants,
-                },
-                Choice {
-                    ahead: Kind::Sign(Operator::OpenBrace),
-                    rule: Rule::NoDeclaration,
-                },
+                asks!(word Class => Classes), asks!(word Final => Constants), asks!(sign OpenBrace => NoDeclaration),
             ],
-            Part::Literal => &[Choice {
-                ahead: Kind::Character(0),
-                rule: Rule::CharacterLiteral,
-            }],
-            Part::Names => &[Choice {
-                ahead: Kind::Sign(Operator::Comma),
-                rule: Rule::MoreNames,
-            }],
-            Part::VarDecls => &[Choice {
-                ahead: Kind::Name,
-                rule: Rule::MoreVarDecls,
-            }],
-            Part::Brackets => &[Choice {
-                ahead: Kind::Sign(Operator::OpenBracket),
-                rule: Rule::ArrayBrackets,
-            }],
-            Part::Methods => &[Choice {
-                ahead: Kind::Sign(Operator::CloseBrace),
-                rule: Rule::NoMethod,
-            }],
-            Part::ReturnType => &[Choice {
-                ahead: Kind::Word(Keyword::Void),
-                rule: Rule::Void,
-            }],
-            Part::Parameters => &[Choice {
-                ahead: Kind::Sign(Operator::CloseParen),
-                rule: Rule::NoParameter,
-            }],
-            Part::MoreParameters => &[Choice {
-                ahead: Kind::Sign(Operator::Comma),
-                rule: Rule::NextParameter,
-            }],
-            Part::Statements => &[Choice {
-                ahead: Kind::Sign(Operator::CloseBrace),
-                rule: Rule::NoStatement,
-            }],
+            Part::Literal => &[asks!(Character => CharacterLiteral)],
+            Part::Names => &[asks!(sign Comma => MoreNames)],
+            Part::VarDecls => &[asks!(Name => MoreVarDecls)],
+            Part::Brackets => &[asks!(sign OpenBracket => ArrayBrackets)],
+            Part::Methods => &[asks!(sign CloseBrace => NoMethod)],
+            Part::ReturnType => &[asks!(word Void => Void)],
+            Part::Parameters => &[asks!(sign CloseParen => NoParameter)],
+            Part::MoreParameters => &[asks!(sign Comma => NextParameter)],
+            Part::Statements => &[asks!(sign CloseBrace => NoStatement)],
             Part::Statement => &[
-                Choice {
-                    ahead: Kind::Word(Keyword::If),
-                    rule: Rule::If,
-                },
-                Choice {
-                    ahead: Kind::Word(Keyword::While),
-                    rule: Rule::While,
-                },
-                Choice {
-                    ahead: Kind::Word(Keyword::Read),
-                    rule: Rule::Read,
-                },
-                Choice {
-                    ahead: Kind::Word(Keyword::Print),
-                    rule: Rule::Print,
-                },
-                Choice {
-                    ahead: Kind::Word(Keyword::Return),
-                    rule: Rule::Return,
-                },
-                Choice {
-                    ahead: Kind::Word(Keyword::Break),
-                    rule: Rule::Break,
-                },
-                Choice {
-                    ahead: Kind::Sign(Operator::OpenBrace),
-                    rule: Rule::Nested,
-                },
-                Choice {
-                    ahead: Kind::Sign(Operator::Semicolon),
-                    rule: Rule::Empty,
-                },
+                asks!(word If => If), asks!(word While => While), asks!(word Read => Read),
+                asks!(word Print => Print), asks!(word Return => Return), asks!(word Break => Break),
+                asks!(sign OpenBrace => Nested), asks!(sign Semicolon => Empty),
             ],
             Part::Action => &[
-                Choice {
-                    ahead: Kind::Sign(Operator::PlusPlus),
-                    rule: Rule::Increment,
-                },
-                Choice {
-                    ahead: Kind::Sign(Operator::MinusMinus),
-                    rule: Rule::Decrement,
-                },
-                Choice {
-                    ahead: Kind::Sign(Operator::OpenParen),
-                    rule: Rule::CallStatement,
-                },
+                asks!(sign PlusPlus => Increment), asks!(sign MinusMinus => Decrement),
+                asks!(sign OpenParen => CallStatement),
             ],
-            Part::Else => &[Choice {
-                ahead: Kind::Word(Keyword::Else),
-                rule: Rule::Else,
-            }],
-            Part::ReturnValue => &[Choice {
-                ahead: Kind::Sign(Operator::Semicolon),
-                rule: Rule::NoValue,
-            }],
-            Part::PrintEnd => &[Choice {
-                ahead: Kind::Sign(Operator::Comma),
-                rule: Rule::Width,
-            }],
-            Part::Arguments => &[Choice {
-                ahead: Kind::Sign(Operator::CloseParen),
-                rule: Rule::NoArgument,
-            }],
-            Part::MoreArguments => &[Choice {
-                ahead: Kind::Sign(Operator::Comma),
-                rule: Rule::NextArgument,
-            }],
-            Part::OrTerms => &[Choice {
-                ahead: Kind::Sign(Operator::OrOr),
-                rule: Rule::Or,
-            }],
-            Part::AndFacts => &[Choice {
-                ahead: Kind::Sign(Operator::AndAnd),
-                rule: Rule::And,
-            }],
+            Part::Else => &[asks!(word Else => Else)],
+            Part::ReturnValue => &[asks!(sign Semicolon => NoValue)],
+            Part::PrintEnd => &[asks!(sign Comma => Width)],
+            Part::Arguments => &[asks!(sign CloseParen => NoArgument)],
+            Part::MoreArguments => &[asks!(sign Comma => NextArgument)],
+            Part::OrTerms => &[asks!(sign OrOr => Or)],
+            Part::AndFacts => &[asks!(sign AndAnd => And)],
             Part::Relation => &[
-                Choice {
-                    ahead: Kind::Sign(Operator::NotEqual),
-                    rule: Rule::NotEqual,
-                },
-                Choice {
-                    ahead: Kind::Sign(Operator::Greater),
-                    rule: Rule::Greater,
-                },
-                Choice {
-                    ahead: Kind::Sign(Operator::GreaterEqual),
-                    rule: Rule::GreaterEqual,
-                },
-                Choice {
-                    ahead: Kind::Sign(Operator::Less),
-                    rule: Rule::Less,
-                },
-                Choice {
-                    ahead: Kind::Sign(Operator::LessEqual),
-                    rule: Rule::LessEqual,
-                },
+                asks!(sign NotEqual => NotEqual), asks!(sign Greater => Greater),
+                asks!(sign GreaterEqual => GreaterEqual), asks!(sign Less => Less),
+                asks!(sign LessEqual => LessEqual),
             ],
-            Part::Expr => &[Choice {
-                ahead: Kind::Sign(Operator::Minus),
-                rule: Rule::Negative,
-            }],
-            Part::Sums => &[
-                Choice {
-                    ahead: Kind::Sign(Operator::Plus),
-                    rule: Rule::Add,
-                },
-                Choice {
-                    ahead: Kind::Sign(Operator::Minus),
-                    rule: Rule::Subtract,
-                },
-            ],
+            Part::Expr => &[asks!(sign Minus => Negative)],
+            Part::Sums => &[asks!(sign Plus => Add), asks!(sign Minus => Subtract)],
             Part::Products => &[
-                Choice {
-                    ahead: Kind::Sign(Operator::Star),
-                    rule: Rule::Multiply,
-                },
-                Choice {
-                    ahead: Kind::Sign(Operator::Slash),
-                    rule: Rule::Divide,
-                },
-                Choice {
-                    ahead: Kind::Sign(Operator::Percent),
-                    rule: Rule::Remainder,
-                },
+                asks!(sign Star => Multiply), asks!(sign Slash => Divide), asks!(sign Percent => Remainder),
             ],
             Part::Factor => &[
-                Choice {
-                    ahead: Kind::Number(0),
-                    rule: Rule::Number,
-                },
-                Choice {
-                    ahead: Kind::Character(0),
-                    rule: Rule::Character,
-                },
-                Choice {
-                    ahead: Kind::Word(Keyword::New),
-                    rule: Rule::New,
-                },
-                Choice {
-                    ahead: Kind::Sign(Operator::OpenParen),
-                    rule: Rule::Bracketed,
-                },
+                asks!(Number => Number), asks!(Character => Character), asks!(word New => New),
+                asks!(sign OpenParen => Bracketed),
             ],
-            Part::Call => &[Choice {
-                ahead: Kind::Sign(Operator::OpenParen),
-                rule: Rule::Call,
-            }],
-            Part::Length => &[Choice {
-                ahead: Kind::Sign(Operator::OpenBracket),
-                rule: Rule::Length,
-            }],
-            Part::Selectors => &[
-                Choice {
-                    ahead: Kind::Sign(Operator::OpenBracket),
-                    rule: Rule::Element,
-                },
-                Choice {
-                    ahead: Kind::Sign(Operator::Dot),
-                    rule: Rule::Field,
-                },
-            ],
+            Part::Call => &[asks!(sign OpenParen => Call)],
+            Part::Length => &[asks!(sign OpenBracket => Length)],
+            Part::Selectors => &[asks!(sign OpenBracket => Element), asks!(sign Dot => Field)],
             _ => &[],
         }
     }
@@ -924,37 +538,14 @@ impl Part {
             Part::Selectors => Rule::NoSelector,
         }
     }
-}
 
-/// The rule by which `part` goes on where a token of the kind `ahead` comes next, if it can go on at all.
-pub(crate) fn predict(part: Part, ahead: Kind) -> Rule
-    ensures { result ≡ predicted part ahead }
-{
-    for choice in part.choices() {
-        if alike(choice.ahead, ahead) {
-            return choice.rule;
-        }
+    /// The rule by which the part goes on where this terminal comes next, if it can go on at all.
+    pub(crate) fn predict(self, ahead: Option<Terminal>) -> Rule
+        ensures { result ≡ predicted self ahead }
+    {
+        self.choices()
+            .iter()
+            .find(|choice| Some(choice.ahead) == ahead)
+            .map_or(self.otherwise(), |choice| choice.rule)
     }
-    part.otherwise()
-}
-
-// The number of a token's kind, its value aside.
-fn sort_of(kind: Kind) -> u8
-    ensures { result ≡ sort kind }
-{
-    match kind {
-        Kind::End => 0,
-        Kind::Name => 1,
-        Kind::Number(_) => 2,
-        Kind::Character(_) => 3,
-        Kind::Word(word) => 4 + word as u8,
-        Kind::Sign(sign) => 16 + sign as u8,
-    }
-}
-
-/// Whether two kinds of tokens are the same, their values aside.
-pub(crate) fn alike(a: Kind, b: Kind) -> bool
-    ensures { result ≡ (sort a == sort b) }
-{
-    sort_of(a) == sort_of(b)
 }

@@ -1,7 +1,8 @@
 // The nodes of a tree, as they stand in the node table.
+use arith::Relation;
 
 /// An arithmetic operator between two expressions.
-#[derive(Clone, Copy)]
+#[derive(Clone, Copy, Debug, PartialEq)]
 pub enum BinaryOp {
     Add,
     Subtract,
@@ -10,19 +11,8 @@ pub enum BinaryOp {
     Remainder,
 }
 
-/// A relation between two expressions.
-#[derive(Clone, Copy)]
-pub enum Relation {
-    Equal,
-    NotEqual,
-    Greater,
-    GreaterEqual,
-    Less,
-    LessEqual,
-}
-
 /// What a node is.
-#[derive(Clone, Copy)]
+#[derive(Clone, Copy, Debug, PartialEq)]
 pub enum NodeKind {
     /// A statement that is only a semicolon.
     Empty,
@@ -70,7 +60,7 @@ pub enum NodeKind {
 }
 
 /// How a node is used by the node whose part it is.
-#[derive(Clone, Copy)]
+#[derive(Clone, Copy, Debug, PartialEq)]
 pub enum Use {
     /// As a value, or as a statement.
     Value,
@@ -81,14 +71,15 @@ pub enum Use {
 }
 
 /// What the checker finds about a node.
-#[derive(Clone, Copy)]
+#[derive(Clone, Copy, Debug, PartialEq)]
 pub enum Note {
     /// Nothing yet: so the parser leaves every node.
     Unjudged,
 }
 
 /// An entry of the node table. A node's parts stand before it, each behind the whole of the one to its left.
-#[derive(Clone, Copy)]
+// Indices and no boxes: the table lies in lent memory.
+#[derive(Clone, Copy, Debug, PartialEq)]
 pub struct Node {
     pub kind: NodeKind,
     /// The place of its own token in the text.
@@ -104,7 +95,7 @@ pub struct Node {
 }
 
 /// A node that is begun: its own token was taken, and its parts are still coming.
-#[derive(Clone, Copy)]
+#[derive(Clone, Copy, Debug, PartialEq)]
 pub struct Own {
     pub kind: NodeKind,
     pub place: usize,

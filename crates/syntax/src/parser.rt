@@ -1,22 +1,21 @@
 // The parser: it goes through the rules as the tokens ask, and makes the nodes on the way.
 ghost use Rattle.std.specs.Prelude.{◌≡◌, ◌+◌, ◌<◌, ◌≤◌, None};
 ghost use Rattle.slicevec.specs.Held.{room};
-ghost use Rattle.syntax.specs.Derivations.{nested, informed, marked as marked_by};
-ghost use Rattle.syntax.specs.Sorts.{sort};
+ghost use Rattle.syntax.specs.Derivations.{nested, literal, noting, marked};
 ghost use Rattle.syntax.specs.States.{Taken, Running, Stepped, Ran, Went, Room, ShownBy};
 
-use crate::grammar::{Item, Level, Part, Role, Rule, alike, predict};
+use crate::grammar::{Item, Level, Part, Role, Rule, Terminal};
 use crate::node::{Node, NodeKind, Own};
-use crate::refusal::{Reason, Refusal};
+use crate::refusal::Reason;
 use crate::table::lay;
-use lexer::{Kind, Token, next};
+use lexer::{Kind, Refusal, Token, Tokens};
 use slicevec::SliceVec;
 
 /// Brackets and bodies stand inside one another up to this depth.
 pub const MAX_DEPTH: usize = 64;
 
 /// Where an item stands: how deep, and whether in a `while`.
-#[derive(Clone, Copy)]
+#[derive(Clone, Copy, Debug, PartialEq)]
 pub struct Nest {
     pub depth: usize,
     pub in_loop: bool,
@@ -32,7 +31,7 @@ impl Nest {
             Level::Same => self,
             Level::Inner => Nest {
                 depth: self.depth + 1,
-                in_loop: self.in_loop,
+                ..self
             },
             Level::Loop => Nest {
                 depth: self.depth + 1,
@@ -43,80 +42,87 @@ impl Nest {
 }
 
 impl NodeKind {
-    // What the node keeps of its own token or of a noted one.
-    fn informed(self, token: Token, nest: Nest) -> NodeKind
-        ensures { result ≡ informed self token nest }
+    // The node of a number or a character, with its value.
+    fn literal(kind: Kind) -> Option<NodeKind>
+        ensures { result ≡ literal kind }
+    {
+        match kind {
+            Kind::Number(value) => Some(NodeKind::Number(value)),
+            Kind::Character(byte) => Some(NodeKind::Character(byte)),
+            _ => None,
+        }
+    }
+
+    // The node with what it keeps of a noted token.
+    fn noting(self, token: Token) -> NodeKind
+        ensures { result ≡ noting self token }
     {
         match self {
-            NodeKind::Field { name: _ } => NodeKind::Field { name: token.place },
-            NodeKind::New { class: _ } => NodeKind::New { class: token.place },
-            NodeKind::Number(_) => match token.kind {
-                Kind::Number(value) => NodeKind::Number(value),
-                _ => NodeKind::Number(0),
-            },
-            NodeKind::Character(_) => match token.kind {
-                Kind::Character(byte) => NodeKind::Character(byte),
-                _ => NodeKind::Character(0),
-            },
-            NodeKind::Print { width: _ } => match token.kind {
-                Kind::Number(value) => NodeKind::Print { width: Some(value) },
-                _ => NodeKind::Print { width: None },
-            },
-            NodeKind::Break { in_loop: _ } => NodeKind::Break {
-                in_loop: nest.in_loop,
+            NodeKind::Field { .. } => NodeKind::Field { name: token.place },
+            NodeKind::New { .. } => NodeKind::New { class: token.place },
+            NodeKind::Print { .. } => NodeKind::Print {
+                width: match token.kind {
+                    Kind::Number(value) => Some(value),
+                    _ => None,
+                },
             },
             _ => self,
         }
     }
 }
 
-// The node that is begun, after a token in its role.
-fn marked(role: Role, token: Token, nest: Nest, own: Option<Own>) -> Option<Own>
-    ensures { result ≡ marked_by role token nest own }
-{
-    match role {
-        Role::Plain => own,
-        Role::Own(kind) => Some(Own {
-            kind: kind.informed(token, nest),
+impl Role {
+    // The node that is begun, after a token in this role.
+    fn mark(self, token: Token, nest: Nest, own: Option<Own>) -> Option<Own>
+        ensures { result ≡ marked self token nest own }
+    {
+        let begun = |kind| Own {
+            kind,
             place: token.place,
-        }),
-        Role::Noted => match own {
-            Some(own) => Some(Own {
-                kind: own.kind.informed(token, nest),
-                place: own.place,
+        };
+        match self {
+            Role::Plain => own,
+            Role::Own(kind) => Some(begun(kind)),
+            Role::Literal => NodeKind::literal(token.kind).map(begun),
+            Role::Break => Some(begun(NodeKind::Break {
+                in_loop: nest.in_loop,
+            })),
+            Role::Noted => own.map(|own| Own {
+                kind: own.kind.noting(token),
+                ..own
             }),
-            None => None,
-        },
+        }
     }
 }
 
 /// A parser on its way through a text.
 pub struct Parser<'t> {
     text: &'t [u8],
-    /// The next token.
-    ahead: Token,
+    /// The tokens behind the next one.
+    tokens: Tokens<'t>,
+    /// The next token, if one is still to come.
+    ahead: Option<Token>,
     /// How many tokens are still to come.
+    // Kept beside `ahead`: the loops over the rest of the tokens are to end by it.
     left: usize,
     /// How many nodes were made.
     made: usize,
 }
 
 impl<'t> Parser<'t> {
-    // Takes the next token, which must be of this kind, at this depth. No token has the kind of the end.
-    fn take(&mut self, kind: Kind, depth: usize) -> Result<Token, Refusal>
-        requires { 0 < sort kind }
-        ensures taken { Taken self.old self.new kind depth result }
+    // Takes the next token, which must be this terminal, at this depth.
+    fn take(&mut self, terminal: Terminal, depth: usize) -> Result<Token, Refusal<Reason>>
+        ensures taken { Taken self.old self.new terminal depth result }
         ensures text { self.new.text.now ≡ self.old.text.now }
         ensures made { self.new.made ≡ self.old.made }
     {
-        let token = self.ahead;
-        if self.left == 0 {
+        let Some(token) = self.ahead else {
             return Err(Refusal {
                 reason: Reason::Grammar,
                 place: self.text.len(),
             });
-        }
-        if !alike(kind, token.kind) {
+        };
+        if Terminal::of(token.kind) != Some(terminal) {
             return Err(Refusal {
                 reason: Reason::Grammar,
                 place: token.place,
@@ -128,8 +134,9 @@ impl<'t> Parser<'t> {
                 place: token.place,
             });
         }
-        self.ahead = next(self.text, token.place.saturating_add(token.len))?;
-        self.left -= 1;
+        self.ahead = self.tokens.next().transpose().map_err(Refusal::widen)?;
+        // One is left at least, as there was one ahead.
+        self.left = self.left.saturating_sub(1);
         Ok(token)
     }
 }

@@ -1,9 +1,12 @@
-// Why a recipe has no tree, and where.
+// Why a recipe has no tree.
 ghost use Rattle.std.specs.Prelude.{◌≡◌};
-ghost use Rattle.syntax.specs.Refusals.{number_of};
+ghost use Rattle.syntax.specs.declared.refusal.Reason.TheVariants.{Lexical};
+ghost use Rattle.syntax.specs.Refusals.{number_of as number_of_reason};
+
+use lexer::Numbered;
 
 /// Why a text has no tree.
-#[derive(Clone, Copy)]
+#[derive(Clone, Copy, Debug, PartialEq)]
 pub enum Reason {
     /// It is no list of tokens.
     Lexical(lexer::Reason),
@@ -15,11 +18,10 @@ pub enum Reason {
     TableFull,
 }
 
-impl Reason {
-    /// The number by which a refusal is told.
-    pub fn number(self) -> u8
-        ensures { result ≡ number_of self }
-    {
+impl Numbered for Reason {
+    ghost number_of = { number_of_reason };
+
+    fn number(self) -> u8 {
         match self {
             Reason::Lexical(reason) => reason.number(),
             Reason::Grammar => 5,
@@ -29,18 +31,10 @@ impl Reason {
     }
 }
 
-/// A refusal and the place in the text that it speaks of.
-#[derive(Clone, Copy)]
-pub struct Refusal {
-    pub reason: Reason,
-    pub place: usize,
-}
+impl From<lexer::Reason> for Reason {
+    ghost from_gives = { λ reason wider. wider ≡ Lexical reason };
 
-impl From<lexer::Refusal> for Refusal {
-    fn from(refusal: lexer::Refusal) -> Refusal {
-        Refusal {
-            reason: Reason::Lexical(refusal.reason),
-            place: refusal.place,
-        }
+    fn from(reason: lexer::Reason) -> Reason {
+        Reason::Lexical(reason)
     }
 }

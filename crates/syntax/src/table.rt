@@ -1,6 +1,6 @@
 // The node table: nodes are laid into it children first.
 ghost use Rattle.std.specs.Prelude.{◌≡◌, ℕ, ◌≤◌, List, [], ◌∷◌, ◌++◌, length};
-ghost use Rattle.slicevec.specs.Held.{held, room};
+ghost use Rattle.slicevec.specs.Held.{held, KeepsMemory};
 ghost use Rattle.syntax.specs.Table.{first_use, first_root, parts, loose, entries};
 ghost use Rattle.syntax.specs.Laying.{Linked, Laid};
 
@@ -25,11 +25,11 @@ impl NodeKind {
 // Makes the trees from `start` on the parts of one node that uses its first part so, and answers the first.
 fn link(table: &mut SliceVec<'_, Node>, start: usize, used: Use) -> Option<usize>
     ensures linked { Linked (held table.old) (held table.new) start used result }
-    ensures size { room table.new ≡ room table.old }
-    ensures lender { table.new.entries.ghost_name ≡ table.old.entries.ghost_name }
+    ensures kept { KeepsMemory table.old table.new }
 {
     let mut next = None;
     let mut end = table.len();
+    // From one tree to the next on its left by the nodes' own starts: no range or iterator goes that way.
     'trees: while start < end {
         let root = end - 1;
         let Some(mut node) = table.get(root) else {
@@ -50,8 +50,7 @@ fn link(table: &mut SliceVec<'_, Node>, start: usize, used: Use) -> Option<usize
 /// more.
 pub(crate) fn lay(table: &mut SliceVec<'_, Node>, made: usize, own: Own, start: usize)
     ensures laid { Laid table.old table.new made own start }
-    ensures size { room table.new ≡ room table.old }
-    ensures lender { table.new.entries.ghost_name ≡ table.old.entries.ghost_name }
+    ensures kept { KeepsMemory table.old table.new }
 {
     if table.len() != made {
         return;

@@ -1,12 +1,8 @@
-use Rattle.std.proofs.Common.{rules}
-use Rattle.lexer.proofs.Lexemes.{escape_r, escape_n, no_escape}
+use Rattle.lexer.specs.Tokens.{carriage_return, line_feed}
 use Rattle.lexer.proofs.front.escape.Goals as goal
 
 pub returns-in-r : goal.returns-in-r
-returns-in-r c = escape_r c.args.letter (search rules)
+returns-in-r c = rw c.in-r.is carriage_return
 
 pub returns-in-n : goal.returns-in-n
-returns-in-n c = escape_n c.args.letter (search rules)
-
-pub returns-in_default : goal.returns-in_default
-returns-in_default c byte e = no_escape (search rules) (search rules) e
+returns-in-n c = rw c.in-n.is line_feed

@@ -1,6 +1,6 @@
-use Rattle.std.proofs.Common.{arith, rules}
-use Rattle.lexer.proofs.Fronts.{there}
+use Rattle.std.proofs.Common.{rules}
+use Rattle.lexer.proofs.Lexemes.{escaped_here}
 use Rattle.lexer.proofs.front.escaped.Goals as goal
 
-pub returns-in_default : goal.returns-in_default
-returns-in_default c byte form = let long = there c.args.s.now 3 39 form.closes (omega arith) in search rules
+pub returns-in-39 : goal.returns-in-39
+returns-in-39 c = escaped_here c.args.s.now c.escape.result c.map.result (search rules) (search rules) (search rules) c.escape.ensures (search rules)

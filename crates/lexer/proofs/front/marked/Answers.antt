@@ -1,17 +1,8 @@
-use Rattle.lexer.specs.Tokens.{a_character, an_escape}
-use Rattle.lexer.proofs.Lexemes.{sign_here, no_marked}
+use Rattle.std.proofs.Common.{rules}
+use Rattle.lexer.proofs.Lexemes.{signed_here, marked_here}
 use Rattle.lexer.proofs.front.marked.Goals as goal
 
-pub returns-in-Some : goal.returns-in-Some
-returns-in-Some c =
-    let told = c.in-Some.ensures in
-    sign_here c.args.s.now c.in-Some.sign c.len.result c.len.ensures told.0 told.1 c.requires
-
-pub returns-in-Some-plain : goal.returns-in-Some-plain
-returns-in-Some-plain c = a_character c.in-Some-plain.ensures
-
-pub returns-in-Some-escaped : goal.returns-in-Some-escaped
-returns-in-Some-escaped c = an_escape c.in-Some-escaped.ensures
-
 pub returns : goal.returns
-returns c = no_marked c.args.s.now c.in_default.ensures c.in_default-plain.ensures c.in_default-escaped.ensures
+returns c =
+    let first = signed_here c.args.s.now c.sign.result c.map.result c.or_else.result c.requires c.sign.ensures (search rules) (λ e. search rules) (λ f e. search rules) in
+    marked_here c.args.s.now c.or_else.result c.or_else-2.result first (λ e. search rules) (λ f e. search rules)

@@ -1,6 +1,6 @@
-use Rattle.std.proofs.Common.{arith, rules}
-use Rattle.lexer.proofs.Fronts.{there}
+use Rattle.std.proofs.Common.{rules}
+use Rattle.lexer.specs.Tokens.{a_character}
 use Rattle.lexer.proofs.front.plain.Goals as goal
 
-pub returns-in_default : goal.returns-in_default
-returns-in_default c byte form = let long = there c.args.s.now 2 39 form.closes (omega arith) in search rules
+pub returns-in-39 : goal.returns-in-39
+returns-in-39 c = a_character (search rules)

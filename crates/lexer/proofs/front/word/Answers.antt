@@ -1,8 +1,7 @@
-use Rattle.lexer.proofs.Lexemes.{word_here, name_here}
+use Rattle.std.proofs.Common.{rules}
+use Rattle.lexer.specs.Runs.{word_byte}
+use Rattle.lexer.proofs.Lexemes.{word_here}
 use Rattle.lexer.proofs.front.word.Goals as goal
 
-pub returns-in-Some : goal.returns-in-Some
-returns-in-Some c = word_here c.args.s.now c.len_in-len.result c.in-Some.keyword c.requires c.len_in-len.ensures.len c.in-Some.ensures
-
-pub returns-in-None : goal.returns-in-None
-returns-in-None c = name_here c.args.s.now c.len_in-len.result c.requires c.len_in-len.ensures.len c.in-None.ensures
+pub returns : goal.returns
+returns c = word_here c.args.s.now c.run_len-len.result c.keyword.result c.map_or-kind.result c.requires (c.run_len-len.ensures.len word_byte (λ byte r told. search rules)) c.keyword.ensures (search rules)

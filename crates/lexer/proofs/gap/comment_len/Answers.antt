@@ -1,9 +1,7 @@
 use Rattle.std.proofs.Common.{rules}
-use Rattle.lexer.proofs.Gaps.{closed_comment, open_comment}
+use Rattle.lexer.specs.Runs.{line_byte}
+use Rattle.lexer.proofs.Gaps.{comment_gap}
 use Rattle.lexer.proofs.gap.comment_len.Goals as goal
 
-pub returns-then-line-rest : goal.returns-then-line-rest
-returns-then-line-rest c = closed_comment c.args.s.now c.len_in-line.result (search rules) (search rules) (search rules) c.len_in-line.ensures.len c.if-line-rest.true
-
-pub returns-else-line-rest : goal.returns-else-line-rest
-returns-else-line-rest c = open_comment c.args.s.now c.len_in-line.result (search rules) (search rules) (search rules) c.len_in-line.ensures.len c.if-line-rest.false
+pub returns-in-47 : goal.returns-in-47
+returns-in-47 c = comment_gap c.args.s.now c.run_len-line.result c.min.result (search rules) (search rules) (search rules) (c.run_len-line.ensures.len line_byte (λ byte r told. search rules)) (search rules)

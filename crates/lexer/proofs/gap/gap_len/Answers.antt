@@ -1,10 +1,6 @@
 use Rattle.std.proofs.Common.{◌∙◌, rules}
-use Rattle.lexer.proofs.Fronts.{gap_within}
 use Rattle.lexer.proofs.Gaps.{blank_gap, only_comment}
 use Rattle.lexer.proofs.gap.gap_len.Goals as goal
-
-pub returns-in_default : goal.returns-in_default
-returns-in_default c n g = let h = gap_within g in search rules
 
 pub returns-in-Blank : goal.returns-in-Blank
 returns-in-Blank c = blank_gap c.args.s.now (search rules) c.in-Blank.ensures

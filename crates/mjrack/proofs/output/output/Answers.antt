@@ -1,4 +1,4 @@
-use Rattle.std.proofs.Common.{length, sym, subst}
+use Rattle.std.proofs.Common.{length, sym, ap, ◌∙◌, subst, rules}
 use Rattle.std.proofs.lemmas.Result.{IfOk-weaker}
 use Rattle.mjrack.specs.Lines.{Sofar, Refused}
 use Rattle.mjrack.specs.Output.{Printed, the_report, the_refusal}
@@ -7,9 +7,12 @@ use Rattle.mjrack.proofs.output.output.Goals as goal
 pub returns-in-Ok : goal.returns-in-Ok
 returns-in-Ok c =
     let text = c.args.text.now in
-    IfOk-weaker c.report.result _ _ (λ v e. the_report (subst (Sofar text (length text)) (sym c.deref.ensures.value) c.in-Ok.ensures) e) c.report.ensures
+    let all : Sofar text (length text) c.deref.result.now = search rules in
+    IfOk-weaker c.report.result _ _ (λ v e. the_report all e) c.report.ensures
 
-pub returns-in-NotAReading : goal.returns-in-NotAReading
-returns-in-NotAReading c =
+pub returns-in_ok-format-in-Err : goal.returns-in_ok-format-in-Err
+returns-in_ok-format-in-Err c =
     let text = c.args.text.now in
-    IfOk-weaker c.refused.result _ _ (λ v e. subst (Printed text) (sym e) (the_refusal (subst (Refused text) c.in-NotAReading.is c.in-Err.ensures))) c.refused.ensures
+    let none : Refused text c.in-Err.field-0.0 = search rules in
+    let printed = ap (λ v. v.items) c.into_bytes.ensures.value ∙ c.in_ok-format-in-Err.ensures.ok in
+    subst (Printed text) (sym printed) (the_refusal none)

@@ -1,37 +1,51 @@
-use Rattle.std.proofs.Common.{◌≡◌, ◌+◌, length, vec_items, sym, ap, ◌∙◌, subst, arith, MatchResult}
-use Rattle.std.proofs.lemmas.List.{length_push}
-use Rattle.std.proofs.lemmas.Result.{err_from_is_err_and}
-use Rattle.mjrack.specs.Lines.{Sofar, begin, more, Refused, no_memory, no_reading}
-use Rattle.mjrack.specs.declared.readings.Fault.TheVariants.{NotAReading}
+use Rattle.std.proofs.Common.{◌≡◌, ℕ, ◌+◌, ◌<◌, min, eqb, length, take, drop, vec_items, sym, ap, ◌∙◌, subst, arith, rules}
+use Rattle.std.specs.Slice.Iter.{split_inclusive_rest}
+use Rattle.std.proofs.Math.Seq.{drop-append_seam}
+use Rattle.std.proofs.lemmas.List.{drop-drop, length-drop}
+use Rattle.lexer.specs.Runs.{decimal}
+use Rattle.std.proofs.lemmas.Fn.{always_returns_same}
+use Rattle.mjrack.specs.Lines.{Sofar, begin, more, Refused, no_reading, Reading, IsReading}
+use Rattle.mjrack.proofs.Lines.{Feeds, feeds, one_reading, none_reading, stripped}
 use Rattle.mjrack.proofs.readings.readings.Goals as goal
+use Rattle.mjrack.proofs.readings.readings.Goals.{After-unwrap_or}
 
-pub loop-at-init : goal.loop-at-init
-loop-at-init c =
-    let empty = c.new-found.ensures.items in (
-      subst (Sofar c.args.text.now 0) (sym empty) begin,
-      omega (arith, ap length empty),
-      omega arith,
-    )
+-- where the line of this turn ends, and what it is without its line feed
+turn : (c : After-unwrap_or) → (i : ℕ) × Feeds (split_inclusive_rest c.loop-line.line-iterator) i × (c.unwrap_or.result.now ≡ take i (split_inclusive_rest c.loop-line.line-iterator)) × (length c.in-Some.line.now ≡ min (i + 1) (length (split_inclusive_rest c.loop-line.line-iterator)))
+turn c =
+    let step = c.in-Some.ensures.steps in
+    let rest = split_inclusive_rest c.loop-line.line-iterator in
+    let f = feeds rest step.1.0 (step.1.2 (λ b. eqb b 10) (always_returns_same _ _ _ (λ a r q k. search rules))).1 in
+    (step.1.0, f, ap (λ b. b.now) c.unwrap_or.ensures ∙ stripped rest (split_inclusive_rest c.next.new.self) c.in-Some.line step.1.0 c.strip_suffix.result f step.0 step.1.1 step.2 c.strip_suffix.ensures.cases, step.1.1)
 
-pub returns-in-None : goal.returns-in-None
-returns-in-None c =
-    subst (λ n. Refused c.args.text.now (NotAReading (n + 1))) (sym (c.len.ensures ∙ c.loop-at.found.ok.0)) (no_reading c.loop-at.invariant.0 c.loop-at-test.true c.in-None.ensures.line)
+pub loop-line-init : goal.loop-line-init
+loop-line-init c = (0, omega arith, ap split_inclusive_rest c.into_iter-line-iterator.ensures.into_iter_gives ∙ c.split_inclusive-line-items.ensures.rest, subst (Sofar c.args.text.now 0) (sym c.new-found.ensures.items) begin)
 
-pub returns-in_err-push-in-Some : goal.returns-in_err-push-in-Some
-returns-in_err-push-in-Some c =
+pub returns-in_default : goal.returns-in_default
+returns-in_default c =
     let text = c.args.text.now in
-    let left = err_from_is_err_and c.from_residual.result c.from_residual.ensures.1 in
-    subst (λ r. MatchResult r (λ v. Sofar text (length text) (vec_items v)) (Refused text)) (sym left.1) (subst (Refused text) (sym left.2) no_memory)
+    let sofar = c.loop-line.invariant in
+    let t = turn (goal.at.returns-in_default c).After-unwrap_or in
+    let never = none_reading text _ sofar.0 t.0 sofar.1 sofar.2 t.1 (subst (λ l. IsReading l → ⊥) t.2 c.in_default.ensures) in
+    let ahead : sofar.0 < length text = omega (arith, c.in-Some.ensures.steps.2, ap length sofar.2, length-drop sofar.0 text) in
+    subst (λ n. Refused text (n + 1)) (sym (c.len.ensures ∙ c.loop-line.found.ok.0)) (no_reading sofar.3 ahead never)
 
-pub loop-at-preserved : goal.loop-at-preserved
-loop-at-preserved c =
-    let pushed = c.in_ok-push-in-Some.ensures.items in
-    let line = c.in-Some.line in
-    let ahead = c.in-Some.ensures.ahead in (
-      subst (Sofar c.args.text.now line.next) (sym pushed) (more c.loop-at.invariant.0 c.in-Some.ensures.line),
-      omega (arith, ahead.0, c.loop-at.invariant.1, ap length pushed, length_push (vec_items c.loop-at.found) line.reading),
-      ahead.1,
-    )
+pub loop-line-preserved : goal.loop-line-preserved
+loop-line-preserved c =
+    let text = c.args.text.now in
+    let sofar = c.loop-line.invariant in
+    let line = c.in-Some.line.now in
+    let rest = split_inclusive_rest c.next.new.self in
+    let t = turn (goal.at.loop-line-preserved c).After-unwrap_or in
+    let read = c.in-Some-reading.ensures in
+    let next = min (length text) (sofar.0 + t.0 + 1) in
+    let place : sofar.0 + length line ≡ next = omega (arith, t.3, sofar.1, ap length sofar.2, length-drop sofar.0 text) in
+    let left = sym (drop-append_seam line rest) ∙ ap (drop (length line)) (sym c.in-Some.ensures.steps.0 ∙ sofar.2) ∙ drop-drop (length line) sofar.0 text ∙ ap (λ n. drop n text) place in
+    let one = subst (Reading text sofar.0 next) (ap decimal (sym t.2) ∙ sym read.1) (one_reading text _ sofar.0 t.0 sofar.1 sofar.2 t.1 (subst IsReading t.2 read.0)) in
+    (next, omega arith, left, subst (Sofar text next) (sym c.in_ok-push.ensures.items) (more sofar.3 one))
 
 pub returns : goal.returns
-returns c = let end : c.loop-at.at ≡ length c.args.text.now = omega (arith, c.loop-at-test.false, c.loop-at.invariant.2) in subst (λ n. Sofar c.args.text.now n (vec_items c.loop-at.found)) end c.loop-at.invariant.0
+returns c =
+    let text = c.args.text.now in
+    let sofar = c.loop-line.invariant in
+    let end : sofar.0 ≡ length text = omega (arith, c.in-None.ensures.steps.0, sofar.1, ap length sofar.2, length-drop sofar.0 text) in
+    subst (λ n. Sofar text n (vec_items c.loop-line.found)) end sofar.3

@@ -1,44 +1,37 @@
-use Rattle.std.proofs.Common.{◌≡◌, ℕ, ◌<◌, true, false, List, [], ◌∷◌, length, is_some, Err, sym, refl, ap, ◌∙◌, subst, true≢false, arith}
-use Rattle.source.specs.Reading.{IntRead, nothing_waits}
+use Rattle.std.proofs.Common.{◌≡◌, ℕ, ◌<◌, List, [], ◌∷◌, length, Err, None, Some, MatchOption, refl, arith, rules}
+use Rattle.std.specs.Option.{SomeIff}
+use Rattle.source.specs.Reading.{Fits, number, nothing_waits}
 use Rattle.source.specs.Waiting.{first}
 use Rattle.source.specs.declared.read.ReadFault.TheVariants.{NothingWaits}
-use Rattle.source.proofs.Words.{int_read, no_int}
+use Rattle.source.proofs.Words.{word_read}
 use Rattle.source.proofs.Worked.{worked}
 use Rattle.source.proofs.read.read_int.Goals as goal
 
-nothing : (w : List ℕ) → is_some (first w) ≡ false → length w ≡ 0
+nothing : (w : List ℕ) → first w ≡ None → length w ≡ 0
 nothing [] e = refl
-nothing (b ∷ w) e = absurd (true≢false e)
+nothing (b ∷ w) e = absurd (grind arith)
 
-something : (w : List ℕ) → is_some (first w) ≡ true → 0 < length w
-something [] e = absurd (true≢false (sym e))
-something (b ∷ w) e = omega arith
+something : (w : List ℕ) (b : ℕ) → Some b ≡ first w → 0 < length w
+something [] b e = absurd (grind arith)
+something (b' ∷ w) b e = omega arith
 
-pub returns-then-is_none : goal.returns-then-is_none
-returns-then-is_none g c =
-    let w = g.S.Source.waiting c.args.source.now in
-    let left = g.S.Source.waiting c.skip_blanks.new.source in
-    let e = c.skip_blanks.ensures in
-    let none = nothing left (sym (ap is_some c.look.ensures) ∙ c.if-is_none.ensures) in
-    record { read = subst (IntRead w (Err NothingWaits)) (sym e) (nothing_waits (sym (ap length e) ∙ none)); examples = worked }
+pub returns-in_err-ok_or-clause-read : goal.returns-in_err-ok_or-clause-read
+returns-in_err-ok_or-clause-read g c =
+    let e : c.from_residual.result ≡ Err NothingWaits = search rules in
+    let none = nothing (g.S.Source.waiting c.skip_blanks.new.source) (search rules) in
+    rw (e, c.skip_blanks.ensures) (nothing_waits (rw c.skip_blanks.ensures at none))
 
-pub returns-in-Some : goal.returns-in-Some
-returns-in-Some g c =
-    let waiting = g.S.Source.waiting in
-    let told = c.in-Some.ensures.amount in
-    record {
-      read = int_read (waiting c.args.source.now) (waiting c.skip_blanks.new.source) (waiting c.take_minus-minus.new.source) c.skip_blanks.ensures c.take_minus-minus.ensures.rest
-          (waiting c.take_digits.new.source) c.take_minus-minus.result c.in-Some.amount c.word.result c.ok_or.result
-          c.take_minus-minus.ensures.answer told.0 told.1 c.in-Some.ensures.rest c.word.ensures c.ok_or.ensures.value;
-      examples = worked;
-    }
+pub returns-in_err-ok_or-clause-examples : goal.returns-in_err-ok_or-clause-examples
+returns-in_err-ok_or-clause-examples g c = worked
 
-pub returns-in-None : goal.returns-in-None
-returns-in-None g c =
-    let waiting = g.S.Source.waiting in
-    let blanks = waiting c.skip_blanks.new.source in
-    record {
-      read = no_int (waiting c.args.source.now) blanks (waiting c.take_minus-minus.new.source) c.skip_blanks.ensures c.take_minus-minus.ensures.rest
-          (waiting c.take_digits.new.source) (something blanks (sym (ap is_some c.look.ensures) ∙ c.if-is_none.ensures)) c.in-None.ensures.amount c.in-None.ensures.rest;
-      examples = worked;
-    }
+pub returns-clause-read : goal.returns-clause-read
+returns-clause-read g c =
+    let told : MatchOption c.take_digits.result (c.and_then.result ≡ None) (λ n. SomeIff c.and_then.result (Fits c.take_minus-minus.result n) (number c.take_minus-minus.result n)) = search rules in
+    let some = something (g.S.Source.waiting c.skip_blanks.new.source) c.in_ok-ok_or.field-0 (search rules) in
+    let minus = c.take_minus-minus.ensures in
+    let digits = c.take_digits.ensures in
+    rw (c.ok_or-2.ensures.value, digits.rest, minus.rest, c.skip_blanks.ensures)
+    (word_read _ (rw c.skip_blanks.ensures at some) _ _ (rw (minus.rest, c.skip_blanks.ensures) at digits.amount) (rw (minus.answer, c.skip_blanks.ensures) at told))
+
+pub returns-clause-examples : goal.returns-clause-examples
+returns-clause-examples g c = worked

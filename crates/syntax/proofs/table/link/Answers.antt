@@ -1,12 +1,11 @@
-use Rattle.std.proofs.Common.{◌≡◌, sym, refl, ap, ◌∙◌, subst, arith}
+use Rattle.std.proofs.Common.{◌≡◌, sym, ap, ◌∙◌, rules}
 use Rattle.std.proofs.lemmas.Bool.{le-leb, lt-leb}
-use Rattle.slicevec.specs.Held.{held}
-use Rattle.syntax.proofs.Links.{Linking, all_loose, one_linked, all_linked, tied, relinked}
+use Rattle.syntax.proofs.Links.{all_loose, one_linked, all_linked, tied, relinked}
 use Rattle.syntax.proofs.table.link.Goals as goal
 use Rattle.syntax.proofs.table.link.Goals.{then-node-start, else-node-start}
 
 pub trees-init : goal.trees-init
-trees-init c = (subst (λ n. Linking (held c.args.table.now) (held c.args.table.now) c.args.start c.args.used _ n) (sym c.len-end.ensures) (all_loose _ _ _), refl, refl)
+trees-init c = (rw c.len-end.ensures (all_loose _ _ _), search rules)
 
 pub trees-preserved : goal.trees-preserved
 trees-preserved c =
@@ -17,12 +16,8 @@ trees-preserved c =
       | else-node-start w ↦ w.node-is ∙ ap (λ b. tied b c.args.used c.trees.next node) (sym (lt-leb _ _ w.if-node-start.false))
     ] in (
       one_linked _ _ _ _ _ _ _ _ node c.if-node-start.node c.trees-test.true (m ∙ ap (relinked c.args.start c.args.used c.trees.next) c.in-Some.ensures.1) c.set.ensures.changed c.min-end.ensures c.trees.invariant.0,
-      c.set.ensures.size ∙ c.trees.invariant.1,
-      c.set.ensures.lender ∙ c.trees.invariant.2,
+      search rules,
     )
 
-pub returns-after-trees : goal.returns-after-trees
-returns-after-trees c = record { linked = all_linked _ _ _ _ _ _ c.trees-test.false c.trees.invariant.0; size = c.trees.invariant.1; lender = c.trees.invariant.2 }
-
-pub returns-in_default : goal.returns-in_default
-returns-in_default c = absurd (omega (arith, c.in_default.ensures, c.trees.invariant.0.within, c.trees-test.true))
+pub returns-after-trees-clause-linked : goal.returns-after-trees-clause-linked
+returns-after-trees-clause-linked c = all_linked _ _ _ _ _ _ c.trees-test.false c.trees.invariant.0

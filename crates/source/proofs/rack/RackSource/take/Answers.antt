@@ -1,31 +1,27 @@
-use Rattle.std.proofs.Common.{◌+◌, get_or, drop, sym, ap, ◌∙◌}
-use Rattle.source.specs.Waiting.{first}
-use Rattle.source.proofs.Racks.{line_some, rack_first, rack_next, rack_over, rack_end}
+use Rattle.std.proofs.Common.{length, slice_get, slice_index, sym, ap, arith, drop-drop, rules}
+use Rattle.std.proofs.lemmas.Option.{slice_get_within}
+use Rattle.source.specs.Racks.{told}
+use Rattle.source.proofs.Racks.{told_short, rack_first, line_over}
 use Rattle.source.proofs.rack.RackSource.take.Goals as goal
 
-pub returns-then-self : goal.returns-then-self
-returns-then-self c =
-    let rack = c.args.self.now in
-    let e = rack_end rack.readings.now rack.place rack.taken c.if-self.true in
-    record { answer = sym (ap first e); rest = e ∙ sym (ap (drop 1) e) }
+pub overflow_add-self : goal.overflow_add-self
+overflow_add-self c = omega (arith, told_short (slice_index c.args.self.now.readings.now 0))
 
-pub invariant_of-self-else-self-line : goal.invariant_of-self-else-self-line
-invariant_of-self-else-self-line c = record { inside = line_some (get_or c.args.self.now.readings.now (c.args.self.now.place + 1) 0) }
+pub invariant_of-self : goal.invariant_of-self
+invariant_of-self c =
+    let here = slice_get_within (told c.in_ok-reading.reading.now) _ _ (sym c.in-Some.ensures) in
+    record { inside = omega (arith, here, ap (λ l. length (told (slice_index l 0))) c.in_ok-reading.ensures.cases.0) }
 
-pub returns-then-self-line : goal.returns-then-self-line
-returns-then-self-line c =
-    let rack = c.args.self.now in
-    let line = c.line_of-line.result in
-    record {
-      answer = rack_first rack.readings.now rack.place rack.taken c.if-self.false rack.inside line.bytes line.len c.line_of-line.ensures.text;
-      rest = rack_next rack.readings.now rack.place rack.taken;
-    }
+pub returns-in-Some-clause-answer : goal.returns-in-Some-clause-answer
+returns-in-Some-clause-answer c = rack_first _ _ _ _ (ap (λ l. slice_get l 0) c.in_ok-reading.ensures.cases.0) c.args.self.now.inside c.in-Some.ensures
 
-pub returns-else-self-line : goal.returns-else-self-line
-returns-else-self-line c =
-    let rack = c.args.self.now in
-    let line = c.line_of-line.result in
-    record {
-      answer = rack_first rack.readings.now rack.place rack.taken c.if-self.false rack.inside line.bytes line.len c.line_of-line.ensures.text;
-      rest = rack_over rack.readings.now rack.place rack.taken c.if-self.false rack.inside line.bytes line.len c.line_of-line.ensures.text c.if-self-line.false;
-    }
+pub returns-in-Some-clause-rest : goal.returns-in-Some-clause-rest
+returns-in-Some-clause-rest c = search (rules, drop-drop)
+
+pub returns-in-None-clause-answer : goal.returns-in-None-clause-answer
+returns-in-None-clause-answer c = rack_first _ _ _ _ (ap (λ l. slice_get l 0) c.in_ok-reading.ensures.cases.0) c.args.self.now.inside c.in-None.ensures
+
+pub returns-in-None-clause-rest : goal.returns-in-None-clause-rest
+returns-in-None-clause-rest c =
+    let inside = rw c.in_ok-reading.ensures.cases.0 at c.args.self.now.inside in
+    rw c.in_ok-reading.ensures.cases.0 (sym (line_over _ _ _ inside (sym c.in-None.ensures)))
