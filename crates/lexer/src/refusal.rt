@@ -31,7 +31,11 @@ impl Reason {
     pub fn number(self) -> u8
         ensures { result ≡ number_of_reason self }
     {
-        Numbered::number(self)
+        match self {
+            Reason::TextTooLong => 2,
+            Reason::NoToken => 3,
+            Reason::NumberTooLarge => 4,
+        }
     }
 }
 
@@ -39,11 +43,7 @@ impl Numbered for Reason {
     ghost number_of = { number_of_reason };
 
     fn number(self) -> u8 {
-        match self {
-            Reason::TextTooLong => 2,
-            Reason::NoToken => 3,
-            Reason::NumberTooLarge => 4,
-        }
+        Reason::number(self)
     }
 }
 

@@ -21,7 +21,7 @@ implies true b = b
 implies false b = true
 
 -- so it passes if the first does
-use_implies : (a b : Bool) → implies a b ≡ true → a ≡ true → b ≡ true
+pub use_implies : (a b : Bool) → implies a b ≡ true → a ≡ true → b ≡ true
 use_implies true b h e = h
 use_implies false b h e = absurd (false≢true e)
 

@@ -14,3 +14,8 @@ pub mod Thrift
 pub mod Filling
 pub mod Arrivals
 pub mod Completions
+pub mod Ranks
+pub mod Steps
+pub mod Promises
+pub mod Texts
+pub mod Worked

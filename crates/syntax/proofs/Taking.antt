@@ -1,9 +1,10 @@
 -- The next token is taken from those still to come.
-use Rattle.std.proofs.Common.{◌≡◌, ◌≢◌, ℕ, ◌+◌, ◌-◌, ◌<◌, List, [], ◌∷◌, length, drop, Some, Ok, Err, Result, IsErr, MatchResult, sym, refl, ap, ◌∙◌, subst, arith, None, Option}
+use Rattle.std.proofs.Common.{◌≡◌, ◌≢◌, ℕ, ◌+◌, ◌-◌, ◌<◌, List, [], ◌∷◌, length, drop, Some, Ok, Err, Result, IsErr, MatchOption, MatchResult, sym, refl, ap, ◌∙◌, subst, arith, None, Option}
 use Rattle.lexer.specs.Tokens.{Lexeme, Cut, nothing, a_gap, a_token}
 use Rattle.lexer.specs.Scan.{Next as LexerNext, then_token, then_end, NoNext, then_bad}
 use Rattle.lexer.specs.Stream.{Step, Yields}
 use Rattle.std.specs.Option.{option_transpose}
+use Rattle.std.specs.Result.{result_ok}
 use Rattle.lexer.specs.declared.token.Kind.{Kind}
 use Rattle.lexer.specs.declared.token.Kind.TheVariants.{End}
 use Rattle.lexer.specs.declared.token.Token.{Token}
@@ -16,7 +17,8 @@ use Rattle.syntax.specs.declared.grammar.Terminal.{Terminal}
 use Rattle.syntax.specs.declared.parser.Parser.{Parser}
 use Rattle.syntax.specs.declared.refusal.Reason.{Reason}
 use Rattle.syntax.specs.declared.refusal.Reason.TheVariants.{Grammar, Depth}
-use Rattle.syntax.specs.Terminals.{terminal_of}
+use Rattle.syntax.specs.Parsing.{place_of}
+use Rattle.syntax.specs.Terminals.{terminal_of, ahead}
 use Rattle.syntax.specs.States.{Next, last, more, Coming, NotTaken, other, deep, Taken}
 
 -- a token that stands after gaps is the first of those that the text has from there on
@@ -57,15 +59,29 @@ never_refused after None s d e = cc
 never_refused after (Some (Ok t)) s d e = cc
 never_refused after (Some (Err y)) s d e = refused_not s.0 d
 
+-- the same where a refusal would be no token
+pub first_of : {text : List ℕ} {at after : ℕ} {us : List Token} {o : Option Token} (Q : Result Token (Refusal Lexical) → Type 0) (item : Option (Result Token (Refusal Lexical))) → Step text at item after → Cut text at (length text) us → MatchOption item (o ≡ None) Q → ((r : Result Token (Refusal Lexical)) → Q r → o ≡ result_ok r) → Next text after o us
+first_of Q None s d e told = rw (e, next_end s.0.1 s.0.2 d) last
+first_of Q (Some (Ok t)) s d e told = rw (told (Ok t) e, s.2) (next_token s.0 s.1 d)
+first_of Q (Some (Err x)) s d e told = absurd (refused_not s.0 d)
+
 -- the next token is the first of those still to come, and the others follow it
-first_is : {text : List ℕ} {at : ℕ} {o : Option Token} {t : Token} {ts : List Token} → Next text at o ts → o ≡ Some t → (us : List Token) × (ts ≡ t ∷ us) × Cut text at (length text) us
+pub first_is : {text : List ℕ} {at : ℕ} {o : Option Token} {t : Token} {ts : List Token} → Next text at o ts → o ≡ Some t → (us : List Token) × (ts ≡ t ∷ us) × Cut text at (length text) us
 first_is last e = absurd (cc)
 first_is (more {ts = us} c) e = (us, cc, c)
 
 -- where there is none, none is still to come
-none_is : {text : List ℕ} {at : ℕ} {o : Option Token} {ts : List Token} → Next text at o ts → o ≡ None → ts ≡ []
+pub none_is : {text : List ℕ} {at : ℕ} {o : Option Token} {ts : List Token} → Next text at o ts → o ≡ None → ts ≡ []
 none_is last e = refl
 none_is (more c) e = absurd (cc)
+
+-- the terminal that the next token is comes next
+pub ahead_is : {p : Parser} {t : Token} (ts : List Token) → p.ahead ≡ Some t → Coming p ts → terminal_of t.kind ≡ ahead ts
+ahead_is ts e c = sym (ap ahead (first_is c.next e).1)
+
+-- and its place is that of the tokens still to come
+pub place_is : {p : Parser} {t : Token} (ts : List Token) → p.ahead ≡ Some t → Coming p ts → t.place ≡ place_of p.text.now ts
+place_is {p} ts e c = sym (ap (place_of p.text.now) (first_is c.next e).1)
 
 -- where no token is left, none is taken
 pub nothing_left : {p : Parser} {terminal : Terminal} {depth : ℕ} (ts : List Token) → p.ahead ≡ None → Coming p ts → NotTaken p.text.now terminal depth (record { reason = Grammar; place = length p.text.now }) ts

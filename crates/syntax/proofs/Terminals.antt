@@ -21,3 +21,10 @@ found e h = search (rules, same_eq)
 
 pub missed : {r : Bool} {a b : Option Terminal} → r ≡ not (same a b) → r ≡ true → a ≢ b
 missed {a = a} e h x = search (rules, same_refl)
+
+-- what an arm of `if a == b` knows
+pub equal : {r : Bool} {a b : Option Terminal} → r ≡ same a b → r ≡ true → a ≡ b
+equal e h = search (rules, same_eq)
+
+pub unequal : {r : Bool} {a b : Option Terminal} → r ≡ same a b → r ≡ false → a ≢ b
+unequal {a = a} e h x = search (rules, same_refl)

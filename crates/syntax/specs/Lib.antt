@@ -9,3 +9,4 @@ pub mod Parsing
 pub mod Reaching
 pub mod Laying
 pub mod States
+pub mod Examples

@@ -19,7 +19,8 @@ use Rattle.syntax.specs.declared.refusal.Reason.TheVariants.{Grammar, Depth}
 use Rattle.syntax.specs.Derivations.{Frame, frame}
 use Rattle.syntax.specs.Grammar.{right, tail}
 use Rattle.syntax.specs.Laying.{Holds}
-use Rattle.syntax.specs.Parsing.{place_of}
+use Rattle.syntax.specs.Parsing.{place_of, NoTree, Parsed}
+use Rattle.syntax.specs.Refusals.{number_of}
 use Rattle.syntax.specs.Reaching.{Reach, Blocked}
 use Rattle.syntax.specs.Terminals.{terminal_of, ahead}
 use Rattle.syntax.specs.Table.{loose}
@@ -46,6 +47,11 @@ abbrev pub Taken : Parser → Parser → Terminal → ℕ → Result Token (Refu
 Taken p q terminal depth (Ok t) = (depth ≤ 64) × ((ts : List Token) → Coming p ts → (us : List Token) × (ts ≡ t ∷ us) × (terminal_of t.kind ≡ Some terminal) × Coming q us)
 Taken p q terminal depth (Err e) = (ts : List Token) → Coming p ts → NotTaken p.text.now terminal depth e ts
 
+-- the next token is not the barred terminal, or why not
+abbrev pub Bars : List ℕ → Terminal → List Token → Result (Unit {0}) (Refusal Reason) → Type 0
+Bars text terminal ts (Ok _) = ahead ts ≢ Some terminal
+Bars text terminal ts (Err e) = (ahead ts ≡ Some terminal) × (e ≡ record { reason = Grammar; place = place_of text ts })
+
 -- a node that is begun still has to be made
 abbrev pub owed : Option Own → ℕ
 owed None = 0
@@ -62,12 +68,13 @@ pub record Running (p : Parser) (table : SliceVec Node) (start : ℕ) (own : Opt
   pub begins : length front ≡ start
   pub few : start + sizes trees + owed own + length tokens ≤ 65536
 
--- the parser came from some tokens and frames to where it cannot go on, for this reason and at this place
+-- the parser came from some tokens and frames to where it cannot go on, for this reason and at this place, nor could it with
+-- more frames around
 pub record Stops (text : List ℕ) (e : Refusal Reason) (ts : List Token) (s : List Frame) : Type 0 where
   pub tokens : List Token
   pub frames : List Frame
   pub path : Reach ts s tokens frames
-  pub blocked : Blocked e.reason tokens frames
+  pub blocked : (around : List Frame) → Blocked e.reason tokens (frames ++ around)
   pub place : e.place ≡ place_of text tokens
 
 -- the parser goes from these frames to others and keeps what was laid before
@@ -106,3 +113,8 @@ Shown item d = Unit {0}
 abbrev pub ShownBy : Item → ℕ → Result (Option Own) (Refusal Reason) → Type 0
 ShownBy item d (Ok o) = Shown item d
 ShownBy item d (Err e) = Unit {0}
+
+-- the answer to a whole text that is laid into an empty table: after a refusal the table may hold anything
+abbrev pub Found : List ℕ → ℕ → Result ℕ (Refusal Reason) → List Node → Type 0
+Found text room (Ok n) table = Parsed text room (Ok n) table
+Found text room (Err e) table = NoTree text room (number_of e.reason) e.place

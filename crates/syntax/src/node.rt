@@ -94,6 +94,17 @@ pub struct Node {
     pub note: Note,
 }
 
+/// An entry of lent memory before anything is laid into it.
+pub const UNUSED: Node = Node {
+    kind: NodeKind::Empty,
+    place: 0,
+    start: 0,
+    first: None,
+    next: None,
+    used: Use::Value,
+    note: Note::Unjudged,
+};
+
 /// A node that is begun: its own token was taken, and its parts are still coming.
 #[derive(Clone, Copy, Debug, PartialEq)]
 pub struct Own {

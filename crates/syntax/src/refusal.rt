@@ -23,7 +23,7 @@ impl Numbered for Reason {
 
     fn number(self) -> u8 {
         match self {
-            Reason::Lexical(reason) => reason.number(),
+            Reason::Lexical(lexical) => lexical.number(),
             Reason::Grammar => 5,
             Reason::Depth => 6,
             Reason::TableFull => 7,
