@@ -1,4 +1,4 @@
--- The rule that the next token asks for: the one by which a part can go on, if it can go on at all.
+-- The rule that the next token asks for: the one by which a part can go on, if it can go on at all. Only inner contracts speak of this.
 use Rattle.std.specs.Prelude.{List, [], ◌∷◌, Some, Option}
 use Rattle.std.specs.List.{find}
 use Rattle.std.specs.Option.{option_map, unwrap_or}

@@ -86,6 +86,10 @@ pub data Derives : List Token → List Frame → Forest → List ℕ → Type 0 
 abbrev pub outermost : Nest
 outermost = record { depth = 0; in_loop = false }
 
+-- the tokens are this part of a recipe, with these trees and, seen from depth 0, these depths
+abbrev pub Is : Part → List Token → Forest → List ℕ → Type 0
+Is p ts f ds = Derives ts (frame [] (Some p) outermost None bare ∷ []) f ds
+
 -- the tokens are a program with these trees, one for each method, and these depths
 abbrev pub Program : List Token → Forest → List ℕ → Type 0
-Program ts f ds = Derives ts (frame [] (Some P.Program) outermost None bare ∷ []) f ds
+Program = Is P.Program

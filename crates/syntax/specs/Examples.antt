@@ -59,7 +59,7 @@ pub record Examples : Type 0 where
   pub minus : Means (codes "program P { void main() { x = -a + b; } }") (tree 17 24 (two N.Assign 28 (leaf N.Name 26) (two (N.Binary B.Add) 33 (one N.Negate 30 (leaf N.Name 31)) (leaf N.Name 35))))
   -- the inner if takes the else
   pub nearest : Means (codes "program P { void main() { if (a == b) if (c == d) ; else ; } }") (tree 17 24 (two N.If 26 (two (N.Relation Q.Equal) 32 (leaf N.Name 30) (leaf N.Name 35)) (three N.If 38 (two (N.Relation Q.Equal) 44 (leaf N.Name 42) (leaf N.Name 47)) (leaf N.Empty 50) (leaf N.Empty 57))))
-  -- x = 1; with 62 brackets around the number is accepted
+  -- tokens of x = 1; with 62 brackets around the number, each taken as one byte long, are a program
   pub deepest : Reads (recipe (Name ∷ Sign S.Assign ∷ bracketed 62 (Number 1 ∷ []) ++ Sign S.Semicolon ∷ [])) (tree 4 7 (two N.Assign 9 (leaf N.Name 8) (leaf (N.Number 1) 72)))
-  -- with 63 the number, at 73, stands too deep
+  -- with 63, of these tokens the number, at 73, is the first that stands too deep
   pub deeper : TooDeep (tokens 0 (opening ++ Name ∷ Sign S.Assign ∷ replicate 63 (Sign S.OpenParen))) (record { kind = Number 1; place = 73; len = 1 })

@@ -4,6 +4,9 @@
 -- that goes on behind the items in one with them. The nodes of the tree are made on the way: an own token, a literal or a break
 -- begins a node that stands at it, a noted token gives that node its width or place, and `make` gives it as parts all the trees
 -- that were made since the part began, from left to right. So a chain groups from the left.
+--
+-- The comment of a rule in `right` tells the whole rule; its left side stands in `left`, and the last part of a chain or a list in
+-- `tail`. What stands between brackets, in an if or a while as its body, or in an else part is one deeper than the rule.
 use Rattle.std.specs.Prelude.{List, [], ◌∷◌, Some, None, Option}
 use Rattle.lexer.specs.declared.Keyword.TheVariants as W
 use Rattle.lexer.specs.declared.Operator.TheVariants as S
@@ -218,9 +221,9 @@ right R.MoreStatements = part P.Statement ∷ []
 right R.NoStatement = []
 -- Statement = Designator Action
 right R.Action = part P.Designator ∷ []
--- Statement = "if" "(" Condition ")" Statement Else, at the word
+-- Statement = "if" "(" Condition ")" Statement Else, at the word; condition and body one deeper
 right R.If = own (word W.If) N.If ∷ one (sign S.OpenParen) ∷ inner P.Condition ∷ one (sign S.CloseParen) ∷ inner P.Statement ∷ part P.Else ∷ I.Make ∷ []
--- Statement = "while" "(" Condition ")" Statement, at the word
+-- Statement = "while" "(" Condition ")" Statement, at the word; condition and body one deeper
 right R.While = own (word W.While) N.While ∷ one (sign S.OpenParen) ∷ inner P.Condition ∷ one (sign S.CloseParen) ∷ looped P.Statement ∷ I.Make ∷ []
 -- Statement = "break" ";", at the word
 right R.Break = breaks (word W.Break) ∷ one (sign S.Semicolon) ∷ I.Make ∷ []
@@ -228,7 +231,7 @@ right R.Break = breaks (word W.Break) ∷ one (sign S.Semicolon) ∷ I.Make ∷ 
 right R.Return = own (word W.Return) N.Return ∷ part P.ReturnValue ∷ one (sign S.Semicolon) ∷ I.Make ∷ []
 -- Statement = "read" "(" Designator ")" ";", at the word
 right R.Read = own (word W.Read) N.Read ∷ one (sign S.OpenParen) ∷ inner P.Designator ∷ one (sign S.CloseParen) ∷ one (sign S.Semicolon) ∷ I.Make ∷ []
--- Statement = "print" "(" Expr PrintEnd, at the word
+-- Statement = "print" "(" Expr PrintEnd, begun at the word and made in PrintEnd
 right R.Print = own (word W.Print) (N.Print None) ∷ one (sign S.OpenParen) ∷ inner P.Expr ∷ []
 -- Statement = Block
 right R.Nested = part P.Block ∷ []
@@ -242,7 +245,7 @@ right R.CallStatement = own (sign S.OpenParen) N.CallStatement ∷ inner P.Argum
 right R.Increment = own (sign S.PlusPlus) N.Increment ∷ one (sign S.Semicolon) ∷ I.Make ∷ []
 -- Action = "--" ";", at the sign
 right R.Decrement = own (sign S.MinusMinus) N.Decrement ∷ one (sign S.Semicolon) ∷ I.Make ∷ []
--- Else = "else" Statement
+-- Else = "else" Statement, which is one deeper
 right R.Else = one (word W.Else) ∷ inner P.Statement ∷ []
 -- Else = nothing, where no "else" comes next: an else belongs to the nearest if that has none
 right R.NoElse = I.Unless (word W.Else) ∷ []
@@ -322,9 +325,9 @@ right R.Bracketed = one (sign S.OpenParen) ∷ inner P.Expr ∷ one (sign S.Clos
 right R.Call = own (sign S.OpenParen) N.Call ∷ inner P.Arguments ∷ one (sign S.CloseParen) ∷ I.Make ∷ []
 -- Call = nothing
 right R.NoCall = []
--- Length = "[" Expr "]"
+-- Length = "[" Expr "]", the one part of the `new`
 right R.Length = one (sign S.OpenBracket) ∷ inner P.Expr ∷ one (sign S.CloseBracket) ∷ I.Make ∷ []
--- Length = nothing
+-- Length = nothing: the `new` has no part
 right R.NoLength = I.Make ∷ []
 -- Designator = ident Selectors, a name at the identifier
 right R.Designator = own name N.Name ∷ I.Make ∷ []

@@ -372,14 +372,14 @@ impl Rule {
             Rule::Number => &[token!(Number, Literal), Item::Make],
             Rule::Character => &[token!(Character, Literal), Item::Make],
             // The place in `New` and `Field` is 0 until the name is noted: kinds without values would be a second such enum.
-            Rule::New => &[word!(New, Own(NodeKind::New { class: 0 })), token!(Name, Noted)],
+            Rule::New => &[word!(New, Own(NodeKind::New { type_place: 0 })), token!(Name, Noted)],
             Rule::Bracketed => &[sign!(OpenParen), inner!(Expr), sign!(CloseParen)],
             Rule::Call => &[sign!(OpenParen, Own(NodeKind::Call)), inner!(Arguments), sign!(CloseParen), Item::Make],
             Rule::NoCall => &[],
             Rule::Length => &[sign!(OpenBracket), inner!(Expr), sign!(CloseBracket), Item::Make],
             Rule::NoLength => &[Item::Make],
             Rule::Designator => &[token!(Name, Own(NodeKind::Name)), Item::Make],
-            Rule::Field => &[sign!(Dot, Own(NodeKind::Field { name: 0 })), token!(Name, Noted), Item::Make],
+            Rule::Field => &[sign!(Dot, Own(NodeKind::Field { name_place: 0 })), token!(Name, Noted), Item::Make],
             Rule::Element => &[
                 sign!(OpenBracket, Own(NodeKind::Element)), inner!(Expr), sign!(CloseBracket), Item::Make,
             ],

@@ -22,7 +22,7 @@ pub enum NodeKind {
     /// The first identifier of a designator.
     Name,
     /// A field of what stands before it, by the place of the field's identifier.
-    Field { name: usize },
+    Field { name_place: usize },
     /// An element of an array: what stands before it, then the index.
     Element,
     /// A call in an expression: its designator, then its arguments.
@@ -34,7 +34,7 @@ pub enum NodeKind {
     /// A character constant, by its byte.
     Character(u8),
     /// A new object or array, by the place of its type's identifier; an array's length is its only part.
-    New { class: usize },
+    New { type_place: usize },
     Negate,
     Binary(BinaryOp),
     Relation(Relation),

@@ -62,8 +62,12 @@ impl NodeKind {
         ensures { result ≡ noting self token }
     {
         match self {
-            NodeKind::Field { .. } => NodeKind::Field { name: token.place },
-            NodeKind::New { .. } => NodeKind::New { class: token.place },
+            NodeKind::Field { .. } => NodeKind::Field {
+                name_place: token.place,
+            },
+            NodeKind::New { .. } => NodeKind::New {
+                type_place: token.place,
+            },
             NodeKind::Print { .. } => NodeKind::Print {
                 width: match token.kind {
                     Kind::Number(value) => Some(value),
@@ -259,7 +263,8 @@ impl<'t> Parser<'t> {
         Terminal::of(self.ahead?.kind)
     }
 
-    // Refuses where the next token is this terminal.
+    // Refuses where the next token is this terminal. A rule with such an item is chosen only where it is not, so no text is refused
+    // here: the items are those of the grammar.
     fn bar(&self, terminal: Terminal) -> Result<(), Refusal<Reason>>
         ensures { (ts : List Token) → Coming self.now ts → Bars self.now.text.now terminal ts result }
     {

@@ -56,6 +56,7 @@ pub(crate) fn lay(table: &mut SliceVec<'_, Node>, made: usize, own: Own, start: 
         return;
     }
     let first = link(table, start, own.kind.first_use());
+    // Where there is no room, the count of the nodes made tells so in the end.
     let _ = table.push(Node {
         kind: own.kind,
         place: own.place,

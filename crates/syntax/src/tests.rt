@@ -117,14 +117,11 @@ fn deepest_brackets(rt: HostRuntime) -> Result<(), Fail> {
     Ok(())
 }
 
-// What stands in front, a part and how often it stands, what stands between, a closing part that stands as often, and what stands
-// behind; and the result.
+// What stands in front, a part and how often it stands, and what stands behind; and the result.
 type Repeated = (
     &'static [u8],
     &'static [u8],
     usize,
-    &'static [u8],
-    &'static [u8],
     &'static [u8],
     Result<usize, (u8, usize)>,
 );
@@ -133,17 +130,17 @@ type Repeated = (
 #[rattlefmt::skip]
 static REPEATED: [Repeated; 6] = [
     // a long chain
-    (b"program P { void main() { x = ", b"1+", 30000, b"1", b"", b"; } }", Ok(60005)),
+    (b"program P { void main() { x = ", b"1+", 30000, b"1; } }", Ok(60005)),
     // a long row of elements
-    (b"program P { void main() { x = a", b"[0]", 20000, b"", b"", b"; } }", Ok(40005)),
+    (b"program P { void main() { x = a", b"[0]", 20000, b"; } }", Ok(40005)),
     // many semicolons
-    (b"program P { void main() { ", b";", 60000, b"", b"", b" } }", Ok(60002)),
-    // 2: a text of 65,536 bytes
-    (b"program P { }", b" ", 65523, b"", b"", b"", Ok(0)),
+    (b"program P { void main() { ", b";", 60000, b" } }", Ok(60002)),
+    // a text of 65,536 bytes
+    (b"program P { }", b" ", 65523, b"", Ok(0)),
     // 2: a text of 65,537 bytes
-    (b"program P { }", b" ", 65524, b"", b"", b"", Err((2, 0))),
+    (b"program P { }", b" ", 65524, b"", Err((2, 0))),
     // 2 before 3
-    (b"@", b" ", 65536, b"", b"", b"", Err((2, 0))),
+    (b"@", b" ", 65536, b"", Err((2, 0))),
 ];
 
 // Texts and tables of so many entries.
@@ -166,15 +163,11 @@ static TABLES: [(&'static [u8], usize, Result<usize, (u8, usize)>); 12] = [
 #[test]
 fn repeated_parts(rt: HostRuntime) -> Result<(), Fail> {
     let mut memory = vec![in rt.alloc(); UNUSED; 65_542]?;
-    for (front, part, count, middle, close, back, expected) in &REPEATED {
+    for (front, part, count, back, expected) in &REPEATED {
         let mut text = vec![in rt.alloc()]?;
         text.extend_from_slice(*front)?;
         for _ in 0..*count {
             text.extend_from_slice(*part)?;
-        }
-        text.extend_from_slice(*middle)?;
-        for _ in 0..*count {
-            text.extend_from_slice(*close)?;
         }
         text.extend_from_slice(*back)?;
         assert_eq!(rt; parsed(&text, &mut memory), *expected);
