@@ -8,6 +8,7 @@ use bundle::divide;
 use listing::listing;
 use std::io::{Read, Write};
 
+// Each program has its own three lines: a crate for them would be no plainer.
 fn main(rt: HostRuntime) -> anyhow::Result<()> {
     let mut given = Vec::new(rt.alloc());
     rt.stdin().read_to_end(&mut given)?;

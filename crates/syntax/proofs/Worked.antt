@@ -1,7 +1,7 @@
 -- The worked examples: the parser's way over some tokens, computed.
-use Rattle.std.proofs.Common.{◌≡◌, ℕ, zero, suc, Bool, true, false, leb, List, [], ◌∷◌, ◌++◌, drop, replicate, Some, None, Option, sym, refl, lit<}
+use Rattle.std.proofs.Common.{◌≡◌, ℕ, zero, suc, Bool, true, false, leb, List, [], ◌∷◌, ◌++◌, drop, Some, None, Option, sym, refl, lit<}
 use Rattle.std.proofs.lemmas.Bool.{leb-true}
-use Rattle.lexer.specs.declared.Kind.TheVariants.{Name, Number, Sign}
+use Rattle.lexer.specs.declared.Kind.TheVariants.{Number}
 use Rattle.lexer.specs.declared.Operator.TheVariants as S
 use Rattle.lexer.specs.declared.Token.{Token}
 use Rattle.syntax.specs.declared.node.Own.{Own}
@@ -16,12 +16,14 @@ use Rattle.syntax.specs.Terminals.{terminal_of, ahead, same}
 use Rattle.syntax.specs.Choices.{predicted}
 use Rattle.syntax.specs.Grammar.{right, tail}
 use Rattle.syntax.specs.Derivations.{nested, marked, made, Frame, frame}
-use Rattle.syntax.specs.Reaching.{Reach, here, token, unless, begin, make, choose, leave, deep}
+use Rattle.lexer.specs.Examples.{token}
+use Rattle.syntax.specs.Parsing.{too_deep}
+use Rattle.syntax.specs.Reaching.{Reach, here, token as taken, unless, begin, make, choose, leave, deep}
 use Rattle.syntax.specs.Trees.{Forest, bare, join}
-use Rattle.syntax.specs.Examples.{tokens, opening, Examples}
+use Rattle.syntax.specs.Examples.{Examples}
 use Rattle.syntax.proofs.Laws.{start}
 use Rattle.syntax.proofs.Promises.{reads, too_deep_there}
-use Rattle.syntax.proofs.Texts.{minus_tokens, minus_text, nearest_tokens, nearest_text}
+use Rattle.syntax.proofs.Texts.{minus_tokens, minus_text, nearest_tokens, nearest_text, signs, before_brackets, behind_number, bracket_tokens, text_62, text_63}
 use Rattle.syntax.proofs.Terminals.{equal, unequal}
 
 -- where the parser comes to
@@ -33,7 +35,7 @@ stay ts s = (ts, s, here)
 
 -- over a token, if it fits and does not stand too deep
 abbrev over : {t : Token} {ts : List Token} {l : Level} {k : Terminal} {role : Role} {is : List Item} {q : Option Part} {m : Nest} {o : Option Own} {f : Forest} {s : List Frame} (b d : Bool) → same (terminal_of t.kind) (Some k) ≡ b → leb (nested l m).depth 64 ≡ d → Arrives ts (frame is q m (marked role t (nested l m) o) f ∷ s) → Arrives (t ∷ ts) (frame (item l k role ∷ is) q m o f ∷ s)
-over true true e d r = (r.0, r.1, token (equal (sym e) refl) (leb-true _ _ d) r.2)
+over true true e d r = (r.0, r.1, taken (equal (sym e) refl) (leb-true _ _ d) r.2)
 over b d e h r = stay _ _
 
 -- past a terminal that may not come next, if it does not
@@ -58,10 +60,9 @@ pub worked : Examples
 worked = record {
   minus = (minus_tokens, minus_text, reads (walk 200 minus_tokens start).2);
   nearest = (nearest_tokens, nearest_text, reads (walk 400 nearest_tokens start).2);
-  deepest = reads (walk 2000 _ start).2;
-  deeper =
-      let before = tokens 0 (opening ++ Name ∷ Sign S.Assign ∷ replicate 63 (Sign S.OpenParen)) in
-      let t : Token = record { kind = Number 1; place = 73; len = 1 } in
-      let r = walk 2000 (before ++ t ∷ []) start in
-      too_deep_there before [] t _ r.2 (deep {s = drop 1 r.1} refl (lit< tt));
+  deepest = (bracket_tokens 62, text_62, reads (walk 2000 (bracket_tokens 62) start).2);
+  deeper = λ room.
+      let before = before_brackets ++ signs S.OpenParen 30 63 in
+      let r = walk 2000 (bracket_tokens 63) start in
+      too_deep before (behind_number 63) (token (Number 1) 93 1) text_63 (too_deep_there before (behind_number 63) (token (Number 1) 93 1) _ r.2 (deep {s = drop 1 r.1} refl (lit< tt)));
 }
