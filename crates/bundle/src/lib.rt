@@ -17,7 +17,8 @@ fn is_mark(bytes: &[u8], at: usize) -> bool
     ensures { result ≡ mark_at bytes.now at }
 {
     let line_begins = at == 0 || bytes[at - 1] == b'\n';
-    line_begins && matches!(&bytes[at..], [b'%', b'%'] | [b'%', b'%', b'\n', ..])
+    // The first byte by itself: at most lines it is no `%`, and no pattern is tried.
+    line_begins && bytes[at] == b'%' && matches!(&bytes[at + 1..], [b'%'] | [b'%', b'\n', ..])
 }
 
 /// The recipe and its input: what stands before and behind the first line `%%`.

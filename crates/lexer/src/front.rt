@@ -10,7 +10,7 @@ ghost use Rattle.lexer.specs.Tokens.{Escape, Plain, Escaped, Gap, Lexeme, Bad};
 
 use crate::class::{Class, class_of};
 use crate::refusal::Reason;
-use crate::run::{is_word_byte, run_len};
+use crate::run::{is_word_byte, run_len, value_of};
 use crate::sign::sign;
 use crate::token::Kind;
 use crate::word::keyword;
@@ -41,11 +41,7 @@ fn number(s: &[u8]) -> Result<Front, Reason>
     ensures { MatchResult result (IsFront s.now) (λ e. Bad s.now (number_of e)) }
 {
     let len = run_len(s, |byte| byte.is_ascii_digit());
-    // Digits are text.
-    let digits = std::str::from_utf8(&s[..len]).unwrap();
-    digits
-        .parse()
-        .ok()
+    value_of(&s[..len])
         .filter(|value| *value <= MAX_NUMBER)
         .map(|value| Front {
             kind: Kind::Number(value),

@@ -38,7 +38,12 @@ fn gap_len(s: &[u8]) -> Option<usize>
 fn gap_at(text: &[u8], place: usize) -> Option<usize>
     ensures { Finds result (Gap (drop place text.now)) }
 {
-    gap_len(text.get(place..)?)
+    // No `get`: a blank would cost half as much again.
+    if place < text.len() {
+        gap_len(&text[place..])
+    } else {
+        None
+    }
 }
 
 /// The first place from `at` on where neither a blank nor a comment stands.

@@ -14,11 +14,18 @@ pub(crate) struct NotAReading(pub(crate) usize);
 fn reading(line: &[u8]) -> Option<u16>
     ensures { SomeIff result (IsReading line.now) (decimal line.now) }
 {
-    // `parse` would pass over a plus.
-    if line.starts_with(b"+") {
+    if line.is_empty() {
         return None;
     }
-    str::from_utf8(line).ok()?.parse().ok()
+    // No `parse`: it takes text, and to see that digits are text takes as long as to read them.
+    let mut value: u16 = 0;
+    for byte in line {
+        if !byte.is_ascii_digit() {
+            return None;
+        }
+        value = value.checked_mul(10)?.checked_add(u16::from(*byte - b'0'))?;
+    }
+    Some(value)
 }
 
 /// The readings of a text, one to a line; the outer error is a lack of memory.

@@ -1,8 +1,11 @@
 // What is printed of readings.
-ghost use Rattle.std.specs.Prelude.{◌≡◌, ◌<◌, List, length, ℤ, IfOk};
+ghost use Rattle.std.specs.Prelude.{◌≡◌, ◌<◌, List, ◌++◌, length, ℤ, IfOk, OnOk};
+ghost use Rattle.std.specs.Fmt.{signed_decimal};
 ghost use Rattle.mjrack.specs.Report.{dead_of, java_sum, ReadBack, Reported, sum_of};
 
+use arith::text::print_word;
 use arith::{Arithmetic, Java, Operation};
+use slicevec::SliceVec;
 use source::{Rack, Source, read_int};
 use std::alloc::{AllocError, Global};
 
@@ -45,6 +48,17 @@ fn read_back<S: Source>(source: &mut S) -> Totals
     Totals { sum, dead }
 }
 
+// Writes an int behind what is there, as a page prints it.
+fn write_int(out: &mut Vec<u8>, int: i32) -> Result<(), AllocError>
+    ensures { OnOk result (out.new.items ≡ out.old.items ++ signed_decimal int) }
+{
+    // A minus and ten digits fit.
+    let mut memory = [0; 11];
+    let mut page = SliceVec::new(&mut memory);
+    let _ = print_word(&mut page, int, 0);
+    out.extend_from_slice(page.as_slice())
+}
+
 /// All that is printed of readings.
 pub(crate) fn report(heap: Global, readings: &[u16]) -> Result<Vec<u8>, AllocError>
     ensures { IfOk result (λ v. Reported readings.now v.items) }
@@ -52,7 +66,8 @@ pub(crate) fn report(heap: Global, readings: &[u16]) -> Result<Vec<u8>, AllocErr
     let mut out = told(heap, &mut Rack::new(readings))?;
     let many = readings.len();
     let Totals { sum, dead } = read_back(&mut Rack::new(readings));
-    let last = format!(in heap; "readings {many}, sum {sum}, dead {dead}\n")?;
-    out.extend_from_slice(last.as_bytes())?;
+    out.extend_from_slice(format!(in heap; "readings {many}, sum ")?.as_bytes())?;
+    write_int(&mut out, sum)?;
+    out.extend_from_slice(format!(in heap; ", dead {dead}\n")?.as_bytes())?;
     Ok(out)
 }

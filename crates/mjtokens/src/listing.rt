@@ -1,7 +1,8 @@
 // The list of a recipe's tokens as text.
-ghost use Rattle.std.specs.Prelude.{◌≡◌, IfOk};
+ghost use Rattle.std.specs.Prelude.{◌≡◌, ◌++◌, IfOk, OnOk};
 ghost use Rattle.mjtokens.specs.Listing.{label as label_of, line as line_of, Listed};
 
+use itoa::Buffer;
 use lexer::{Kind, Token, Tokens, scan};
 use std::alloc::{AllocError, Global};
 
@@ -19,14 +20,19 @@ fn label(kind: Kind) -> &'static str
     }
 }
 
-/// The line of one token.
-fn line(heap: Global, recipe: &[u8], token: Token) -> Result<Vec<u8>, AllocError>
-    ensures { IfOk result (λ v. v.items ≡ line_of recipe.now token) }
+/// Writes the line of one token behind what is there.
+// The digits come from a buffer on the stack: a string for each line would take most of the time of a run.
+fn write_line(out: &mut Vec<u8>, recipe: &[u8], token: Token) -> Result<(), AllocError>
+    ensures { OnOk result (out.new.items ≡ out.old.items ++ line_of recipe.now token) }
 {
-    let mut line = format!(in heap; "{} {} ", token.place, label(token.kind))?.into_bytes();
-    line.extend_from_slice(token.text(recipe))?;
-    line.push(b'\n')?;
-    Ok(line)
+    let mut place = Buffer::new();
+    out.extend_from_slice(place.format(token.place).as_bytes())?;
+    out.push(b' ')?;
+    out.extend_from_slice(label(token.kind).as_bytes())?;
+    out.push(b' ')?;
+    out.extend_from_slice(token.text(recipe))?;
+    out.push(b'\n')?;
+    Ok(())
 }
 
 /// All that is printed of a recipe: its tokens, or why it has none.
@@ -40,7 +46,7 @@ pub(crate) fn listing(heap: Global, recipe: &[u8]) -> Result<Vec<u8>, AllocError
     let mut out = Vec::new(heap);
     for token in Tokens::new(recipe) {
         // The scan found no refusal.
-        out.extend_from_slice(&line(heap, recipe, token.unwrap())?)?;
+        write_line(&mut out, recipe, token.unwrap())?;
     }
     out.extend_from_slice(format!(in heap; "tokens {count}\n")?.as_bytes())?;
     Ok(out)

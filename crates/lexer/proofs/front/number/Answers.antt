@@ -1,13 +1,9 @@
 use Rattle.std.proofs.Common.{◌≡◌, ℕ, ◌+◌, ◌<◌, ◌≤◌, true, cond, List, [], ◌∷◌, length, take, slice_index, MatchOption, ap, ◌∙◌, arith, length-take, rules}
 use Rattle.std.specs.List.{prefix_len}
 use Rattle.std.proofs.lemmas.Bool.Decides.{nat_tests}
-use Rattle.std.proofs.lemmas.Fmt.{IsAscii-from_digits}
-use Rattle.std.proofs.lemmas.Str.{IsUtf8-from_ascii}
-use Rattle.std.proofs.lemmas.Str.Parse.{parse_digits}
 use Rattle.lexer.specs.Classes.{digit}
 use Rattle.lexer.specs.Runs.{decimal}
 use Rattle.lexer.proofs.Lexemes.{run_digits, number_here}
-use Rattle.lexer.proofs.Numbers.{numerals}
 use Rattle.lexer.proofs.front.number.Goals as goal
 
 -- where a digit stands first, there is a run of digits
@@ -15,12 +11,8 @@ some : (s : List ℕ) (n : ℕ) → digit (slice_index s 0) ≡ true → n ≡ p
 some [] n first run = absurd (grind (arith, nat_tests, first))
 some (b ∷ s) n first run = let e : n ≡ 1 + prefix_len digit s = run ∙ ap (λ t. cond t (1 + prefix_len digit s) 0) first in omega (arith, e, length-take n (b ∷ s))
 
-pub unwrap-digits-requires : goal.unwrap-digits-requires
-unwrap-digits-requires c =
-    let n = c.run_len-len.result in
-    let digits = take n c.args.s.now in
-    let run : n ≡ prefix_len digit c.args.s.now = c.run_len-len.ensures.len digit (λ byte r told. search rules) in
-    grind (arith, IsUtf8-from_ascii digits (IsAscii-from_digits digits (numerals.to digits (run_digits c.args.s.now n run))))
+pub value_of-requires : goal.value_of-requires
+value_of-requires c = run_digits c.args.s.now c.run_len-len.result (c.run_len-len.ensures.len digit (λ byte r told. search rules))
 
 pub returns : goal.returns
 returns c =
@@ -29,7 +21,5 @@ returns c =
     let digits = take n s in
     let run : n ≡ prefix_len digit s = c.run_len-len.ensures.len digit (λ byte r told. search rules) in
     let more = some s n c.requires run in
-    let same : c.unwrap-digits.result.now ≡ digits = search rules in
-    let value : MatchOption c.filter.result (2147483647 < decimal digits) (λ v. (v ≡ decimal digits) × (v ≤ 2147483647)) =
-    grind (arith, parse_digits numerals 32 digits c.parse.result (rw same at c.parse.ensures.value.0) (run_digits s n run)) in
+    let value : MatchOption c.filter.result (2147483647 < decimal digits) (λ v. (v ≡ decimal digits) × (v ≤ 2147483647)) = grind (arith, c.value_of.ensures) in
     number_here s n c.filter.result c.map.result c.ok_or.result c.requires run value (search rules) c.ok_or.ensures.value

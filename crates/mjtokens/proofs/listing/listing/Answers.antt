@@ -40,8 +40,7 @@ pub loop-token-preserved : goal.loop-token-preserved
 loop-token-preserved c =
     let recipe = c.args.recipe.now in
     let before = c.loop-token.invariant in
-    let one = c.deref.ensures.value ∙ c.in_ok-line.ensures in
-    let printed : vec_items c.extend_from_slice.new.self ≡ flat_map (line recipe) before.0 ++ line recipe c.unwrap.result = cc (c.in_ok-extend_from_slice.ensures.items, one, before.2) in (
+    let printed : vec_items c.write_line.new.out ≡ flat_map (line recipe) before.0 ++ line recipe c.unwrap.result = c.in_ok-write_line.ensures ∙ ap (λ bs. bs ++ line recipe c.unwrap.result) before.2 in (
       before.0 ++ c.unwrap.result ∷ [],
       one_came recipe c.loop-token.token-iterator c.next.new.self before.0 before.1 c.in-Some.token c.unwrap.result c.unwrap.ensures c.in-Some.ensures.steps,
       printed ∙ flat_map_more (line recipe) [] before.0 c.unwrap.result,
@@ -55,5 +54,5 @@ returns c =
     let all = all_came recipe c.loop-token.token-iterator c.next.new.self before.0 before.1 scanned.1.short c.in-None.ensures.steps in
     let count : c.in-Ok.count ≡ length before.0 = sym scanned.2 ∙ ap length (sym (scanned.1.only before.0 all.cut)) in
     let last : string_bytes c.in_ok-format.field-0 ≡ total c.in-Ok.count = c.in_ok-format.ensures.ok in
-    let printed = c.in_ok-extend_from_slice-2.ensures.items ∙ ap (λ bs. vec_items c.loop-token.out ++ bs) (c.as_bytes.ensures.value ∙ last ∙ ap total count) ∙ ap (λ bs. bs ++ total (length before.0)) before.2 in
+    let printed = c.in_ok-extend_from_slice.ensures.items ∙ ap (λ bs. vec_items c.loop-token.out ++ bs) (c.as_bytes.ensures.value ∙ last ∙ ap total count) ∙ ap (λ bs. bs ++ total (length before.0)) before.2 in
     subst (Listed recipe) (sym printed) (the_tokens all)
