@@ -6,6 +6,9 @@ ghost use Rattle.mjrack.specs.Lines.{IsReading, Refused as NoReadings, Sofar};
 
 use std::alloc::{AllocError, Global};
 
+/// The least number that is no reading. It stands for every larger one too.
+const TOO_LARGE: u32 = 1 << 16;
+
 /// The line of this number, counted from 1, is no reading.
 #[derive(Clone, Copy, Debug, PartialEq)]
 pub(crate) struct NotAReading(pub(crate) usize);
@@ -18,14 +21,14 @@ fn reading(line: &[u8]) -> Option<u16>
         return None;
     }
     // No `parse`: it takes text, and to see that digits are text takes as long as to read them.
-    let mut value: u16 = 0;
+    let mut value: u32 = 0;
     for byte in line {
         if !byte.is_ascii_digit() {
             return None;
         }
-        value = value.checked_mul(10)?.checked_add(u16::from(*byte - b'0'))?;
+        value = (value * 10 + u32::from(*byte - b'0')).min(TOO_LARGE);
     }
-    Some(value)
+    u16::try_from(value).ok()
 }
 
 /// The readings of a text, one to a line; the outer error is a lack of memory.
