@@ -21,7 +21,7 @@ fn label(kind: Kind) -> &'static str
 }
 
 /// Writes the line of one token behind what is there.
-// The digits come from a buffer on the stack: with a string for each line a run takes up to twice the time.
+// The digits come from a buffer on the stack: with a string for each line a run took twice the time.
 fn write_line(out: &mut Vec<u8>, recipe: &[u8], token: Token) -> Result<(), AllocError>
     ensures { OnOk result (out.new.items ≡ out.old.items ++ line_of recipe.now token) }
 {
